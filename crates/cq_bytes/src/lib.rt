@@ -1,0 +1,13 @@
+//! Big-endian fields of byte slices, and the values that all layers share: message bodies and lists of queues.
+#![tactic(auto)]
+
+mod body;
+mod field;
+mod queues;
+
+pub use body::Body;
+pub use field::{put_u32, put_u64, put_u128, take_u16, take_u32, take_u64, take_u128};
+pub use queues::{Queues, QueuesError};
+
+#[cfg(test)]
+mod tests;
