@@ -1,0 +1,9 @@
+pub mod Call
+pub mod File
+pub mod FileLemmas
+pub mod Files
+pub mod Moments
+pub mod Names
+pub mod NamesLemmas
+pub mod Rose
+pub mod There
