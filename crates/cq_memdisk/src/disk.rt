@@ -1,0 +1,349 @@
+// The disk in memory.
+ghost use Rattle.std.specs.Prelude.{◌≡◌, ◌⊎◌, ◌<◌, ◌≤◌, ◌+◌, ◌-◌, ◌^◌, List, ℕ, Some, None, Option, min, length, get_or, [], ◌∷◌, ◌++◌, Contains, OnOk, OnErr, IsErr, IsTrue, ◌↔◌};
+ghost use Rattle.std.specs.Option.{option_map};
+ghost use Rattle.cq_memdisk.specs.declared.change.Note.{Note};
+ghost use Rattle.cq_disk.specs.declared.name.Name.{Name};
+ghost use Rattle.cq_disk.specs.File.{File, settled};
+ghost use Rattle.cq_disk.specs.Files.{Becomes, SameFiles};
+ghost use Rattle.cq_disk.specs.Rose.{Rose};
+ghost use Rattle.cq_disk.specs.Call.{Elapses, Caused, StruckBy, BeforeFuse, KeepsPlan};
+ghost use Rattle.cq_memdisk.specs.Folder.{bytes_of};
+ghost use Rattle.cq_memdisk.specs.Record.{only_now, each_now, reads_of};
+ghost use Rattle.cq_memdisk.specs.Change.{changed, rewritten, CanChange, CanWrite, HasBytes, Fits, IsSound, files_of, LeftBetween};
+
+use crate::change::{Change, Note};
+use crate::folder;
+use crate::folder::Folder;
+use cq_disk::{Disk, DiskError, Fault, Name};
+use std::alloc::{AllocError, Global};
+use std::collections::BTreeMap;
+
+/// No file is longer.
+const LONGEST: u64 = 1 << 62;
+
+/// A disk in memory. It keeps the bytes as they read and a record of all changes, and can be made to fail.
+///
+/// No call takes time that grows with a file's length or with the record.
+#[derive(Drop)]
+pub struct MemDisk {
+    alloc: Global,
+    files: Folder,
+    notes: Vec<Note>,
+    since: u64,
+    moment: u64,
+    faults: u64,
+    refused: u64,
+    struck: u64,
+    fuse: Option<u64>,
+    fails: Vec<u64>,
+
+    // The record leads to the bytes.
+    ghost kept: { (n : Name) → reads_of (files_of notes.items n) ≡ bytes_of files n },
+    ghost past: { (k : ℕ) (d : Note) → k < length notes.items → (get_or notes.items k d).from ≤ moment },
+    ghost begun: { since ≤ moment },
+    ghost sound: { (n : Name) (f : File) → files_of notes.items n ≡ Some f → IsSound f },
+
+    // Where no call was made to fail, only refused growths strike, but for the last moment.
+    ghost strikes: { fails.items ≡ [] → moment < 2 ^ 64 - 1 → struck ≡ refused },
+}
+
+impl MemDisk {
+    /// A disk with no files. The calls whose moment before the call stands in `fails` answer Fault and do nothing.
+    pub fn new(alloc: Global, fails: Vec<u64>) -> MemDisk
+        ensures files { (n : Name) → ⟦<MemDisk as Disk>⟧.files result n ≡ None }
+        ensures planned { ⟦<MemDisk as Disk>⟧.planned result ≡ fails.items }
+        ensures fuse { ⟦<MemDisk as Disk>⟧.fuse result ≡ None }
+        ensures moment { ⟦<MemDisk as Disk>⟧.moment result ≡ 0 }
+        ensures faults { ⟦<MemDisk as Disk>⟧.faults result ≡ 0 }
+        ensures struck { ⟦<MemDisk as Disk>⟧.struck result ≡ 0 }
+        ensures refused { result.refused ≡ 0 }
+    {
+        MemDisk {
+            alloc,
+            files: BTreeMap::new(alloc),
+            notes: Vec::new(alloc),
+            since: 0,
+            moment: 0,
+            faults: 0,
+            refused: 0,
+            struck: 0,
+            fuse: None,
+            fails,
+        }
+    }
+
+    /// How many growths this disk was refused. It never falls, and stays at its last value.
+    ///
+    /// Where no call was made to fail and the moment is below its last value, these are all faults but those past a fuse.
+    pub fn refused(&self) -> u64
+        ensures value { result ≡ self.now.refused }
+        ensures struck { ⟦<MemDisk as Disk>⟧.planned self.now ≡ [] → ⟦<MemDisk as Disk>⟧.moment self.now < 2 ^ 64 - 1 → result ≡ ⟦<MemDisk as Disk>⟧.struck self.now }
+    {
+        self.refused
+    }
+
+    /// A file's bytes as they read; None exactly where the file isn't there.
+    pub fn bytes(&self, name: Name) -> Option<&[u8]>
+        ensures { option_map (λ bytes. bytes.now) result ≡ option_map (λ f. f.reads) (⟦<MemDisk as Disk>⟧.files self.now name) }
+    {
+        match self.files.get(&name) {
+            Some(file) => Some(file.as_slice()),
+            None => None,
+        }
+    }
+
+    // Time goes on by one call.
+    fn tick(&mut self) -> u64
+        ensures value { result ≡ self.old.moment }
+        ensures files { self.new.files ≡ self.old.files }
+        ensures notes { self.new.notes ≡ self.old.notes }
+        ensures since { self.new.since ≡ self.old.since }
+        ensures counts { (self.new.faults ≡ self.old.faults) × (self.new.struck ≡ self.old.struck) × (self.new.refused ≡ self.old.refused) }
+        ensures plan { KeepsPlan self.old.fuse self.old.fails.items self.new.fuse self.new.fails.items }
+        ensures moment { self.new.moment ≡ min (self.old.moment + 1) (2 ^ 64 - 1) }
+        ensures later { self.old.moment ≤ self.new.moment }
+        ensures time { Elapses self.old.moment self.new.moment (LeftBetween self.old.notes.items self.old.since self.old.moment)
+            (LeftBetween self.new.notes.items self.new.since self.new.moment) }
+    {
+        let now = self.moment;
+        self.moment = now.saturating_add(1);
+        now
+    }
+
+    // Whether the call at a moment is made to fail.
+    fn is_planned(&self, now: u64) -> bool
+        ensures { IsTrue result ↔ Contains self.now.fails.items now }
+    {
+        self.fails.contains(&now)
+    }
+
+    // Counts a call, and fails it past the fuse, at the moments that are to fail, and at the last one.
+    fn count_call(&mut self) -> Result<(), Fault>
+        ensures files { self.new.files ≡ self.old.files }
+        ensures notes { self.new.notes ≡ self.old.notes }
+        ensures since { self.new.since ≡ self.old.since }
+        ensures refused { self.new.refused ≡ self.old.refused }
+        ensures moment { self.new.moment ≡ min (self.old.moment + 1) (2 ^ 64 - 1) }
+        ensures later { self.old.moment ≤ self.new.moment }
+        ensures in_time { OnOk result (self.old.moment < 2 ^ 64 - 1) }
+        ensures time { Elapses self.old.moment self.new.moment (LeftBetween self.old.notes.items self.old.since self.old.moment)
+            (LeftBetween self.new.notes.items self.new.since self.new.moment) }
+        ensures cause { Caused self.old.faults self.new.faults result }
+        ensures strike { StruckBy self.old.fuse self.old.moment self.old.struck self.new.struck result }
+        ensures plan { KeepsPlan self.old.fuse self.old.fails.items self.new.fuse self.new.fails.items }
+        ensures unfailed { OnOk result ((self.new.faults ≡ self.old.faults) × (self.new.struck ≡ self.old.struck) × (Contains self.old.fails.items self.old.moment → ⊥) × BeforeFuse self.old.fuse self.old.moment) }
+        ensures failed { OnErr result (BeforeFuse self.old.fuse self.old.moment → self.old.moment < 2 ^ 64 - 1 → Contains self.old.fails.items self.old.moment) }
+    {
+        let now = self.tick();
+        if self.fuse.is_some_and(|fuse| fuse <= now) {
+            self.faults = self.faults.saturating_add(1);
+            return Err(Fault);
+        }
+        if now == u64::MAX || self.is_planned(now) {
+            self.faults = self.faults.saturating_add(1);
+            self.struck = self.struck.saturating_add(1);
+            return Err(Fault);
+        }
+        Ok(())
+    }
+
+    // A growth was refused.
+    fn refuse(&mut self) -> Fault
+        ensures files { self.new.files ≡ self.old.files }
+        ensures notes { self.new.notes ≡ self.old.notes }
+        ensures since { self.new.since ≡ self.old.since }
+        ensures moment { self.new.moment ≡ self.old.moment }
+        ensures faults { Rose self.old.faults self.new.faults }
+        ensures faults_later { self.old.faults ≤ self.new.faults }
+        ensures struck { Rose self.old.struck self.new.struck }
+        ensures struck_later { self.old.struck ≤ self.new.struck }
+        ensures refused { Rose self.old.refused self.new.refused }
+        ensures refused_later { self.old.refused ≤ self.new.refused }
+        ensures plan { KeepsPlan self.old.fuse self.old.fails.items self.new.fuse self.new.fails.items }
+    {
+        self.faults = self.faults.saturating_add(1);
+        self.struck = self.struck.saturating_add(1);
+        self.refused = self.refused.saturating_add(1);
+        Fault
+    }
+
+    // A call for which there is no memory.
+    fn refuse_call(&mut self) -> Result<(), Fault>
+        ensures err { IsErr result }
+        ensures fault { SameFiles (files_of self.old.notes.items) (files_of self.new.notes.items) }
+        ensures time { Elapses self.old.moment self.new.moment (LeftBetween self.old.notes.items self.old.since self.old.moment)
+            (LeftBetween self.new.notes.items self.new.since self.new.moment) }
+        ensures cause { Caused self.old.faults self.new.faults result }
+        ensures strike { StruckBy self.old.fuse self.old.moment self.old.struck self.new.struck result }
+        ensures plan { KeepsPlan self.old.fuse self.old.fails.items self.new.fuse self.new.fails.items }
+    {
+        self.count_call()?;
+        Err(self.refuse())
+    }
+
+    // A call that changes one file.
+    fn change(&mut self, name: Name, change: Change) -> Result<(), Fault>
+        requires can { CanChange change (files_of self.old.notes.items name) }
+        requires bytes { HasBytes change }
+        ensures ok { OnOk result (Becomes name (changed change (files_of self.old.notes.items name)) (files_of self.old.notes.items) (files_of self.new.notes.items)) }
+        ensures fits { OnOk result (Fits change) }
+        ensures fault { OnErr result (SameFiles (files_of self.old.notes.items) (files_of self.new.notes.items)) }
+        ensures in_time { OnOk result (self.old.moment < 2 ^ 64 - 1) }
+        ensures time { Elapses self.old.moment self.new.moment (LeftBetween self.old.notes.items self.old.since self.old.moment)
+            (LeftBetween self.new.notes.items self.new.since self.new.moment) }
+        ensures cause { Caused self.old.faults self.new.faults result }
+        ensures strike { StruckBy self.old.fuse self.old.moment self.old.struck self.new.struck result }
+        ensures plan { KeepsPlan self.old.fuse self.old.fails.items self.new.fuse self.new.fails.items }
+    {
+        self.count_call()?;
+        let note = Note {
+            from: self.moment,
+            name,
+            change,
+        };
+        match perform(&mut self.files, &mut self.notes, self.alloc, note) {
+            Ok(()) => Ok(()),
+            Err(_) => Err(self.refuse()),
+        }
+    }
+}
+
+impl Disk for MemDisk {
+    ghost tells = { Unit {0} };
+
+    ghost files = { λ d n. files_of d.notes.items n };
+
+    ghost moment = { λ d. d.moment };
+
+    ghost faults = { λ d. d.faults };
+
+    ghost left = { λ d t u image. LeftBetween d.notes.items d.since d.moment t u image };
+
+    ghost struck = { λ d. d.struck };
+
+    ghost fuse = { λ d. d.fuse };
+
+    ghost planned = { λ d. d.fails.items };
+
+    ghost now_only = { λ told d image left. only_now d.notes.items d.since d.moment image d.past left };
+
+    ghost now_each = { λ told d t image le is. each_now d.notes.items d.since d.moment t image d.past d.begun le is };
+
+    ghost reads_left = { λ told d name f is. (d.sound name f is).readable };
+
+    ghost short = { λ told d name f is. (d.sound name f is).short };
+
+    fn moment(&self) -> u64 {
+        self.moment
+    }
+
+    fn faults(&self) -> u64 {
+        self.faults
+    }
+
+    fn list(&mut self, alloc: Global) -> Result<Vec<Name>, DiskError> {
+        if self.count_call().is_err() {
+            return Err(DiskError::Fault);
+        }
+        match folder::names(&self.files, alloc) {
+            Ok(names) => Ok(names),
+            Err(_) => Err(DiskError::Memory),
+        }
+    }
+
+    fn len(&mut self, name: Name) -> Result<Option<u64>, Fault> {
+        self.count_call()?;
+        match self.files.get(&name) {
+            Some(file) => Ok(Some(file.len() as u64)),
+            None => Ok(None),
+        }
+    }
+
+    fn read(&mut self, name: Name, at: u64, into: &mut [u8]) -> Result<(), Fault> {
+        self.count_call()?;
+        if let Some(file) = self.files.get(&name) {
+            let start = at as usize;
+            into.copy_from_slice(&file[start..start + into.len()]);
+        }
+        Ok(())
+    }
+
+    fn write(&mut self, name: Name, at: u64, bytes: &[u8]) -> Result<(), Fault> {
+        match bytes.to_vec(self.alloc) {
+            Ok(bytes) => self.change(name, Change::Write(at, bytes)),
+            Err(_) => self.refuse_call(),
+        }
+    }
+
+    fn sync(&mut self, name: Name) -> Result<(), Fault> {
+        self.change(name, Change::Sync)
+    }
+
+    fn cut(&mut self, name: Name, len: u64) -> Result<(), Fault> {
+        self.change(name, Change::Cut(len))
+    }
+
+    fn create(&mut self, name: Name) -> Result<(), Fault> {
+        self.change(name, Change::Create)
+    }
+
+    fn remove(&mut self, name: Name) -> Result<(), Fault> {
+        self.change(name, Change::Remove)
+    }
+}
+
+// Makes a change, and notes it.
+fn perform(
+    files: &mut Folder,
+    notes: &mut Vec<Note>,
+    alloc: Global,
+    note: Note,
+) -> Result<(), AllocError>
+    requires { CanWrite note.change (bytes_of files.old note.name) }
+    ensures ok { OnOk result (Becomes note.name (rewritten note.change (bytes_of files.old note.name)) (bytes_of files.old) (bytes_of files.new)) }
+    ensures fits { OnOk result (Fits note.change) }
+    ensures noted { OnOk result (notes.new.items ≡ notes.old.items ++ note ∷ []) }
+    ensures err { OnErr result (SameFiles (bytes_of files.old) (bytes_of files.new)) }
+    ensures not_noted { OnErr result (notes.new.items ≡ notes.old.items) }
+{
+    notes.reserve(1)?;
+    apply(files, alloc, note.name, &note.change)?;
+    match notes.push(note) {
+        Ok(()) => Ok(()),
+        Err(_) => unreachable!(),
+    }
+}
+
+// Makes a change to the bytes.
+fn apply(files: &mut Folder, alloc: Global, name: Name, change: &Change) -> Result<(), AllocError>
+    requires { CanWrite change.now (bytes_of files.old name) }
+    ensures ok { OnOk result (Becomes name (rewritten change.now (bytes_of files.old name)) (bytes_of files.old) (bytes_of files.new)) }
+    ensures fits { OnOk result (Fits change.now) }
+    ensures err { OnErr result (SameFiles (bytes_of files.old) (bytes_of files.new)) }
+{
+    match change {
+        Change::Write(at, bytes) => {
+            let at = *at;
+            if at > LONGEST || bytes.len() as u64 > LONGEST - at {
+                return Err(AllocError);
+            }
+            folder::write(files, name, at, bytes)
+        }
+        Change::Cut(len) => {
+            folder::cut(files, name, *len);
+            Ok(())
+        }
+        Change::Sync => Ok(()),
+        Change::Create => folder::create(files, alloc, name),
+        Change::Remove => {
+            folder::remove(files, name);
+            Ok(())
+        }
+        Change::Load(bytes) => {
+            if bytes.len() as u64 > LONGEST {
+                return Err(AllocError);
+            }
+            folder::load(files, alloc, name, bytes)
+        }
+    }
+}
