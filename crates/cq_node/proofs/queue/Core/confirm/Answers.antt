@@ -1,0 +1,47 @@
+use Rattle.std.proofs.Common.{◌≡◌, ℕ, ◌+◌, ◌-◌, ◌<◌, ◌≤◌, List, [], ◌∷◌, ◌++◌, length, refl, sym, ap, ◌∙◌, subst, arith}
+use Rattle.cq_journal.specs.History.{unacked, waiting}
+use Rattle.cq_journal.specs.Legal.{newest, Legal}
+use Rattle.cq_node.specs.Core.{State, IsKept}
+use Rattle.cq_node.proofs.Steps.{kept-confirmed, kept_at}
+use Rattle.cq_node.proofs.Found.{undecided_is, length-bodies}
+use Rattle.cq_node.proofs.queue.Core.confirm.Goals as goal
+use Rattle.std.proofs.Common.{suc, inl, inr}
+use Rattle.std.proofs.lemmas.Bool.{cases_lt}
+use Rattle.cq_node.specs.Core.{undecided}
+use Rattle.cq_journal.specs.declared.event.Event.TheVariants.{Confirmed}
+use Rattle.cq_journal.specs.declared.event.Entry.{Entry}
+
+pub invariant_of-self : goal.invariant_of-self
+invariant_of-self c =
+    let later : newest c.self.inside.journal.entries ≤ c.args.stamp = subst (λ (v : State). newest v.entries ≤ c.args.stamp) (sym c.self.view_is) c.requires.later in
+    let some : 0 < undecided c.self.inside.journal.entries = subst (λ (v : State). 0 < undecided v.entries) (sym c.self.view_is) c.requires.some in
+    let h = c.self.invariant.0 in
+    let left : c.self.inside.confirmed < c.self.inside.published = omega (arith, undecided_is h, length-bodies h) in
+    let is : c.push.new.self.entries ≡ record { event = Confirmed 0 c.self.inside.confirmed (c.self.inside.confirmed + 1); stamp = c.args.stamp } ∷ c.self.inside.journal.entries = cc (c.push.ensures.entries, c.from.ensures) in
+    let placed : length c.keep_place.new.places.items ≡ suc c.self.inside.confirmed - c.self.inside.delivered = elim (cases_lt c.self.inside.confirmed c.self.inside.delivered) [
+      | inl handed ↦ omega (arith, h.places_are, c.keep_place.ensures.handed handed)
+      | inr waits ↦ omega (arith, h.places_are, c.keep_place.ensures.waits waits)
+    ] in
+    let kept : IsKept (record { event = Confirmed 0 c.self.inside.confirmed (c.self.inside.confirmed + 1); stamp = c.args.stamp } ∷ c.self.inside.journal.entries) c.self.inside.published c.self.inside.delivered (c.self.inside.confirmed + 1) c.pop_front.new.self.items (length c.keep_place.new.places.items) c.self.inside.told.items
+    = kept-confirmed c.args.stamp h later left c.pop_front.new.self.items (length c.keep_place.new.places.items) (sym c.pop_front.ensures.rest) placed in
+    let reserved : 0 < c.self.inside.reserved = subst (λ (v : State). 0 < v.reserved) (sym c.self.view_is) c.requires.reserved in
+    let room : length c.keep_place.new.places.items ≤ length c.self.inside.places.items + 1 = elim (cases_lt c.self.inside.confirmed c.self.inside.delivered) [
+      | inl handed ↦ omega (arith, c.keep_place.ensures.handed handed)
+      | inr waits ↦ omega (arith, c.keep_place.ensures.waits waits)
+    ] in
+    (kept_at kept is refl refl refl, (omega (arith, c.self.invariant.1.0, c.push.ensures.room), omega (arith, c.self.invariant.1.1, c.keep_place.ensures.capacity, room, reserved)))
+
+pub returns-clause-legal : goal.returns-clause-legal
+returns-clause-legal c =
+    let later : newest c.self.inside.journal.entries ≤ c.args.stamp = subst (λ (v : State). newest v.entries ≤ c.args.stamp) (sym c.self.view_is) c.requires.later in
+    let some : 0 < undecided c.self.inside.journal.entries = subst (λ (v : State). 0 < undecided v.entries) (sym c.self.view_is) c.requires.some in
+    let h = c.self.invariant.0 in
+    let left : c.self.inside.confirmed < c.self.inside.published = omega (arith, undecided_is h, length-bodies h) in
+    let is : c.push.new.self.entries ≡ record { event = Confirmed 0 c.self.inside.confirmed (c.self.inside.confirmed + 1); stamp = c.args.stamp } ∷ c.self.inside.journal.entries = cc (c.push.ensures.entries, c.from.ensures) in
+    let placed : length c.keep_place.new.places.items ≡ suc c.self.inside.confirmed - c.self.inside.delivered = elim (cases_lt c.self.inside.confirmed c.self.inside.delivered) [
+      | inl handed ↦ omega (arith, h.places_are, c.keep_place.ensures.handed handed)
+      | inr waits ↦ omega (arith, h.places_are, c.keep_place.ensures.waits waits)
+    ] in
+    let kept : IsKept (record { event = Confirmed 0 c.self.inside.confirmed (c.self.inside.confirmed + 1); stamp = c.args.stamp } ∷ c.self.inside.journal.entries) c.self.inside.published c.self.inside.delivered (c.self.inside.confirmed + 1) c.pop_front.new.self.items (length c.keep_place.new.places.items) c.self.inside.told.items
+    = kept-confirmed c.args.stamp h later left c.pop_front.new.self.items (length c.keep_place.new.places.items) (sym c.pop_front.ensures.rest) placed in
+    subst Legal (sym is) kept.legal

@@ -1,0 +1,57 @@
+-- What a node keeps in memory of one client and one queue, beside its journal.
+use Rattle.std.specs.Prelude.{◌≡◌, ℕ, ◌+◌, ◌-◌, ◌<◌, ◌≤◌, Bool, true, false, ◌==◌, if◌then◌else◌, List, [], ◌∷◌, length, map, drop}
+use Rattle.std.specs.List.{range_with_len}
+use Rattle.cq_journal.specs.declared.event.Entry.{Entry}
+use Rattle.cq_journal.specs.declared.event.Event.{Event}
+use Rattle.cq_journal.specs.declared.event.Event.TheVariants.{Confirmed}
+use Rattle.cq_journal.specs.declared.event.Message.{Message}
+use Rattle.cq_journal.specs.declared.reply.Reply.{Reply}
+use Rattle.cq_journal.specs.History.{line, waiting, unacked}
+use Rattle.cq_journal.specs.Legal.{Legal, published, delivered, brings, has, is_publish, is_confirmed_by}
+use Rattle.cq_journal.specs.Asks.{replies}
+use Rattle.cq_node.specs.Answers.{bodiless}
+
+-- the entries, the newest first, and for how many confirms memory is reserved
+pub record State : Type 0 where
+  pub entries : List Entry
+  pub reserved : ℕ
+
+-- 1 where the event confirms a message
+abbrev pub confirms : Event → ℕ
+confirms (Confirmed client number id) = 1
+confirms _ = 0
+
+-- how many messages were confirmed
+abbrev pub confirmed : List Entry → ℕ
+confirmed [] = 0
+confirmed (e ∷ past) = confirmed past + confirms e.event
+
+-- how many messages were published and aren't confirmed
+abbrev pub undecided : List Entry → ℕ
+undecided past = published past 0 - confirmed past
+
+abbrev pub ids : List Message → List ℕ
+ids ms = map (λ m. m.id) ms
+
+abbrev pub bodies_of : List Message → List (List ℕ)
+bodies_of ms = map (λ m. m.body) ms
+
+-- What is counted and held is what the journal says: the n-th publish has the id n + 1, messages are handed out and confirmed in this order, the bodies of those that aren't confirmed are held, and of those that are confirmed and weren't handed out the places.
+pub record IsKept (journal : List Entry) (publishes deliveries confirms : ℕ) (bodies : List (List ℕ)) (places : ℕ) (told : List Reply) : Type 0 where
+  pub legal : Legal journal
+  pub opened : 0 < length journal
+  pub numbered : ids (line journal 0) ≡ range_with_len 1 publishes
+  pub waits : waiting journal 0 ≡ drop deliveries (line journal 0)
+  pub published_is : published journal 0 ≡ publishes
+  pub delivered_is : delivered journal 0 ≡ deliveries
+  pub confirmed_is : confirmed journal ≡ confirms
+  pub open_is : length (unacked journal 0) ≡ deliveries
+  pub few : deliveries ≤ 64
+  pub handed : deliveries ≤ publishes
+  pub told_is : map bodiless (replies journal 0) ≡ map bodiless told
+  pub unused : (x : ℕ) → publishes < x → has (brings x) journal ≡ false
+  pub there : (n : ℕ) → n < publishes → has (is_publish 0 n (n + 1)) journal ≡ true
+  pub unconfirmed : (x : ℕ) → confirms < x → has (is_confirmed_by x) journal ≡ false
+  pub confirms_below : confirms ≤ publishes
+  pub bodies_are : bodies ≡ bodies_of (drop confirms (line journal 0))
+  pub places_are : places ≡ confirms - deliveries

@@ -1,0 +1,6 @@
+//! A node: it answers requests, journals what happens, and keeps the messages in the files of a disk.
+#![tactic(auto)]
+
+mod queue;
+
+pub use queue::{Core, Next, Spot};

@@ -1,0 +1,293 @@
+// The one queue of one client, in memory, with the journal.
+ghost use Rattle.std.specs.Prelude.{◌≡◌, ◌<◌, ◌≤◌, ◌+◌, ◌^◌, ◌∷◌, ◌++◌, [], List, ℕ, IfOk, OnOk, OnErr, length, map};
+ghost use Rattle.std.specs.VecDeque.{deque_len, deque_capacity};
+ghost use Rattle.cq_journal.specs.History.{unacked, waiting};
+ghost use Rattle.cq_journal.specs.Legal.{Legal, newest, published};
+ghost use Rattle.cq_journal.specs.Asks.{asks, replies};
+ghost use Rattle.cq_node.specs.Answers.{Answers, bodiless};
+
+use cq_bytes::{Body, Queues};
+use cq_inbox::Request;
+use cq_journal::{Entry, Event, Journal, Lines, Reply};
+use std::alloc::{AllocError, Global};
+use std::collections::VecDeque;
+use std::marker::Model;
+
+/// How many deliveries a client may have open.
+const MOST_OPEN: u32 = 64;
+
+/// Where a small record stands in the small store, and how long its body is.
+#[derive(Clone, Copy, Debug, PartialEq, Eq)]
+pub struct Spot {
+    pub place: u64,
+    pub len: u32,
+}
+
+/// What the next get finds.
+#[derive(Clone, Copy, Debug, PartialEq, Eq)]
+pub enum Next {
+    /// The client has 64 deliveries open.
+    Busy,
+    /// Nothing waits.
+    Empty,
+    /// The first message that waits is in memory.
+    Held,
+    /// The first message that waits is in the small store.
+    Stored(Spot),
+}
+
+/// The one queue of one client, and all that happened there. A contract sees the entries of the journal, the newest
+/// first, and for how many confirms memory is reserved.
+#[derive(Debug, Drop)]
+pub struct Core {
+    alloc: Global,
+    journal: Journal,
+    bodies: VecDeque<Body>,
+    places: VecDeque<Spot>,
+    told: Vec<Reply>,
+    published: u64,
+    delivered: u32,
+    confirmed: u64,
+    reserved: usize,
+}
+
+impl Model for Core {
+    ghost use Rattle.std.specs.Prelude.{length, ◌≤◌, ◌+◌};
+    ghost use Rattle.std.specs.VecDeque.{deque_capacity};
+    ghost use Rattle.cq_node.specs.Core.{State, IsKept};
+
+    ghost Value = { State };
+
+    ghost view = { λ a. record { entries = a.journal.entries; reserved = a.reserved } };
+
+    ghost invariant = { λ a. IsKept a.journal.entries a.published a.delivered a.confirmed a.bodies.items (length a.places.items) a.told.items
+        × ((a.reserved ≤ a.journal.room) × (a.reserved + length a.places.items ≤ deque_capacity a.places)) };
+}
+
+impl Core {
+    ghost use Rattle.cq_node.specs.Found.{Finds, HoldsFirst, IsFirstBody};
+    ghost use Rattle.cq_node.specs.Core.{undecided, confirmed};
+
+    /// A core whose folder held no message. The opening is its one entry, with this stamp.
+    pub fn open(alloc: Global, stamp: u64) -> Result<Core, AllocError>
+        ensures opened { IfOk result (λ core. core.entries ≡ (record { event = Event.Opened []; stamp = stamp }) ∷ []) }
+        ensures legal { IfOk result (λ core. Legal core.entries) }
+    {
+        let mut journal = Journal::new(alloc);
+        journal.reserve(1)?;
+        let event = Event::Opened {
+            lines: Lines::new(alloc),
+        };
+        journal.push(Entry { event, stamp });
+        Ok(Core {
+            alloc,
+            journal,
+            bodies: VecDeque::new(alloc),
+            places: VecDeque::new(alloc),
+            told: Vec::new(alloc),
+            published: 0,
+            delivered: 0,
+            confirmed: 0,
+            reserved: 0,
+        })
+    }
+
+    /// Adds a message to the queue. Where memory runs out nothing has changed.
+    pub fn publish(&mut self, stamp: u64, queues: Queues, body: Body) -> Result<(), AllocError>
+        requires one_queue { queues ≡ 0 ∷ [] }
+        requires room { published self.old.entries 0 < 2 ^ 32 }
+        requires later { newest self.old.entries ≤ stamp }
+        ensures ok { OnOk result (Answers 0 (Request.Publish queues body) stamp self.old.entries self.new.entries) }
+        ensures err { OnErr result (self.new.entries ≡ self.old.entries) }
+        ensures legal { Legal self.new.entries }
+    {
+        self.reserved = 0;
+        self.journal.reserve(1)?;
+        self.told.reserve(1)?;
+        self.bodies.reserve(1)?;
+        let copy = Body::copy(self.alloc, body.bytes())?;
+        let number = self.published;
+        let event = Event::Published {
+            client: 0,
+            number,
+            id: u128::from(number) + 1,
+            queues,
+            body,
+        };
+        self.journal.push(Entry { event, stamp });
+        self.bodies.push_back_reserved(copy);
+        self.told.push_reserved(Reply::Published { number });
+        self.published += 1;
+        Ok(())
+    }
+
+    /// What the next get finds.
+    pub fn next(&self) -> Next
+        ensures { Finds result self.now.entries }
+    {
+        if self.delivered >= MOST_OPEN {
+            return Next::Busy;
+        }
+        if u64::from(self.delivered) >= self.published {
+            return Next::Empty;
+        }
+        match self.places.front() {
+            Some(spot) => Next::Stored(*spot),
+            None => Next::Held,
+        }
+    }
+
+    /// Answers a get where 64 deliveries are open. Where memory runs out nothing has changed.
+    pub fn busy(&mut self, stamp: u64) -> Result<(), AllocError>
+        requires full { length (unacked self.old.entries 0) ≡ 64 }
+        requires later { newest self.old.entries ≤ stamp }
+        ensures ok { OnOk result (Answers 0 (Request.Get 0) stamp self.old.entries self.new.entries) }
+        ensures err { OnErr result (self.new.entries ≡ self.old.entries) }
+        ensures legal { Legal self.new.entries }
+    {
+        self.reserved = 0;
+        self.journal.reserve(1)?;
+        self.told.reserve(1)?;
+        let event = Event::Busy {
+            client: 0,
+            queue: 0,
+        };
+        self.journal.push(Entry { event, stamp });
+        self.told.push_reserved(Reply::Busy { queue: 0 });
+        Ok(())
+    }
+
+    /// Answers a get where nothing waits. Where memory runs out nothing has changed.
+    pub fn empty(&mut self, stamp: u64) -> Result<(), AllocError>
+        requires room { length (unacked self.old.entries 0) < 64 }
+        requires none { waiting self.old.entries 0 ≡ [] }
+        requires later { newest self.old.entries ≤ stamp }
+        ensures ok { OnOk result (Answers 0 (Request.Get 0) stamp self.old.entries self.new.entries) }
+        ensures err { OnErr result (self.new.entries ≡ self.old.entries) }
+        ensures legal { Legal self.new.entries }
+    {
+        self.reserved = 0;
+        self.journal.reserve(1)?;
+        self.told.reserve(1)?;
+        let event = Event::Empty {
+            client: 0,
+            queue: 0,
+        };
+        self.journal.push(Entry { event, stamp });
+        self.told.push_reserved(Reply::Empty { queue: 0 });
+        Ok(())
+    }
+
+    /// A copy of the body of the first message that waits, where that is in memory.
+    pub fn held_body(&self) -> Result<Body, AllocError>
+        requires { HoldsFirst self.now.entries }
+        ensures { IfOk result (λ body. IsFirstBody body (waiting self.now.entries 0)) }
+    {
+        let at = (u64::from(self.delivered) - self.confirmed) as usize;
+        Body::copy(self.alloc, self.bodies[at].bytes())
+    }
+
+    /// Hands out the first message that waits, whose body this is. Where memory runs out nothing has changed.
+    pub fn deliver(&mut self, stamp: u64, body: Body) -> Result<(), AllocError>
+        requires room { length (unacked self.old.entries 0) < 64 }
+        requires some { 0 < length (waiting self.old.entries 0) }
+        requires later { newest self.old.entries ≤ stamp }
+        ensures ok { OnOk result (Answers 0 (Request.Get 0) stamp self.old.entries self.new.entries) }
+        ensures err { OnErr result (self.new.entries ≡ self.old.entries) }
+        ensures legal { Legal self.new.entries }
+    {
+        self.reserved = 0;
+        self.journal.reserve(1)?;
+        self.told.reserve(1)?;
+        let delivery = self.delivered;
+        let event = Event::Delivered {
+            client: 0,
+            delivery,
+            queue: 0,
+            id: u128::from(delivery) + 1,
+        };
+        self.journal.push(Entry { event, stamp });
+        let _ = self.places.pop_front();
+        self.told.push_reserved(Reply::Got {
+            delivery,
+            queue: 0,
+            body,
+        });
+        self.delivered += 1;
+        Ok(())
+    }
+
+    /// The bodies of the messages that aren't confirmed, in the order of their publishing.
+    pub fn undecided(&self) -> &VecDeque<Body>
+        ensures { length result.now.items ≡ undecided self.now.entries }
+    {
+        &self.bodies
+    }
+
+    /// Takes the memory that so many confirms need. Where it runs out the entries are as before.
+    pub fn reserve(&mut self, count: usize) -> Result<(), AllocError>
+        ensures entries { self.new.entries ≡ self.old.entries }
+        ensures reserved { OnOk result (self.new.reserved ≡ count) }
+    {
+        self.reserved = 0;
+        self.journal.reserve(count)?;
+        self.places.reserve(count)?;
+        self.reserved = count;
+        Ok(())
+    }
+
+    /// Confirms the first message that isn't confirmed, which stands at this place now. It takes no memory.
+    pub fn confirm(&mut self, stamp: u64, spot: Spot)
+        requires some { 0 < undecided self.old.entries }
+        requires reserved { 0 < self.old.reserved }
+        requires later { newest self.old.entries ≤ stamp }
+        ensures added { self.new.entries ≡ record { event = Event.Confirmed 0 (confirmed self.old.entries) (confirmed self.old.entries + 1); stamp = stamp } ∷ self.old.entries }
+        ensures reserved { self.old.reserved ≡ self.new.reserved + 1 }
+        ensures legal { Legal self.new.entries }
+    {
+        let number = self.confirmed;
+        let event = Event::Confirmed {
+            client: 0,
+            number,
+            id: u128::from(number) + 1,
+        };
+        self.journal.push(Entry { event, stamp });
+        let _ = self.bodies.pop_front();
+        keep_place(&mut self.places, self.delivered, number, spot);
+        self.confirmed += 1;
+        self.reserved -= 1;
+    }
+
+    /// The replies so far, the oldest first.
+    pub fn replies(&self) -> &[Reply]
+        ensures { map bodiless result.now ≡ map bodiless (replies self.now.entries 0) }
+    {
+        &self.told
+    }
+
+    /// What happened so far.
+    pub fn journal(&self) -> &Journal
+        ensures { result.now.entries ≡ self.now.entries }
+    {
+        &self.journal
+    }
+
+    /// What happened, at the end.
+    pub fn into_journal(self) -> Journal
+        ensures { result.entries ≡ self.entries }
+    {
+        self.journal
+    }
+}
+
+/// Keeps the place of a message that is confirmed, unless it was handed out.
+fn keep_place(places: &mut VecDeque<Spot>, delivered: u32, number: u64, spot: Spot)
+    requires room { deque_len places.old < deque_capacity places.old }
+    ensures waits { delivered ≤ number → length places.new.items ≡ length places.old.items + 1 }
+    ensures handed { number < delivered → length places.new.items ≡ length places.old.items }
+    ensures capacity { deque_capacity places.new ≡ deque_capacity places.old }
+{
+    if u64::from(delivered) <= number {
+        places.push_back_reserved(spot);
+    }
+}
