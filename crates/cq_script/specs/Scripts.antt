@@ -1,0 +1,55 @@
+-- What a script is read as, and the limits that it keeps.
+use Rattle.std.specs.Prelude.{◌≡◌, ℕ, ◌<◌, ◌≤◌, List, [], ◌∷◌, length, Result, Ok, Err}
+use Rattle.std.specs.List.{AllByRecursion}
+use Rattle.cq_inbox.specs.declared.request.Request.{Request}
+use Rattle.cq_inbox.specs.declared.request.Request.TheVariants.{Publish, Get}
+use Rattle.cq_inbox.specs.Requests.{IsRequest}
+use Rattle.cq_inbox.specs.Config.{IsInRange, HasNumbers}
+use Rattle.cq_script.specs.declared.script.StepWord.{StepWord}
+use Rattle.cq_script.specs.declared.script.StepWord.TheVariants.{Client, Turn, Write}
+use Rattle.cq_script.specs.declared.script.Script.{Script}
+use Rattle.cq_script.specs.declared.script.ScriptError.{ScriptError}
+use Rattle.cq_script.specs.declared.script.ScriptError.TheVariants.{Bad, Memory}
+use Rattle.cq_script.specs.declared.reading.Reading.{Reading}
+
+-- the script for the one client under the default numbers, with what all the lines say
+pub record IsScript (reading : Reading) (script : Script) : Type 0 where
+  pub config_is : HasNumbers 1 4096 4096 16777216 0 script.config
+  pub streams_is : script.streams ≡ reading.requests ∷ []
+  pub steps_is : script.steps ≡ reading.steps
+  pub scheduled_is : script.scheduled ≡ reading.scheduled
+
+-- the reader gave what the definition says, unless memory ran out
+abbrev pub ReadsScript : Result Script ScriptError → Result Reading ScriptError → Type 0
+ReadsScript (Ok script) read = (reading : Reading) × (read ≡ Ok reading) × IsScript reading script
+ReadsScript (Err Memory) read = Unit {0}
+ReadsScript (Err (Bad n w)) read = read ≡ Err (Bad n w)
+
+-- a publish to queue 0 of 1 to 64 bytes, or a get of queue 0
+abbrev pub IsSmall : Request → Type 0
+IsSmall (Publish queues body) = (queues ≡ 0 ∷ []) × (1 ≤ length body) × (length body ≤ 64)
+IsSmall (Get queue) = queue ≡ 0
+IsSmall _ = ⊥
+
+-- a request that a node can answer, small and of queue 0
+abbrev pub IsServable : Request → Type 0
+IsServable r = IsRequest r × IsSmall r
+
+-- a client's requests are at most 4160, and can be served
+pub record IsStream (requests : List Request) : Type 0 where
+  pub few : length requests ≤ 4160
+  pub each : AllByRecursion IsServable requests
+
+-- a step that names a client names one of so many
+abbrev pub IsStep : ℕ → StepWord → Type 0
+IsStep clients (Client c) = c < clients
+IsStep clients (Turn c) = c < clients
+IsStep clients Write = Unit {0}
+
+-- the numbers are in their ranges, each client has its stream, and requests and steps are few and can be served
+pub record KeepsLimits (script : Script) : Type 0 where
+  pub in_range : IsInRange script.config.clients script.config.segment script.config.threshold script.config.limit
+  pub one_each : length script.streams ≡ script.config.clients
+  pub streams_are : AllByRecursion IsStream script.streams
+  pub few_steps : length script.steps ≤ 10000
+  pub steps_are : AllByRecursion (IsStep script.config.clients) script.steps

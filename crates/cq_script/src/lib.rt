@@ -1,0 +1,15 @@
+//! The reader of scripts: what clients ask, and the steps in which it is served.
+#![tactic(auto)]
+
+mod lines;
+mod reader;
+mod reading;
+mod script;
+mod stream;
+mod texts;
+
+pub use reader::read_script;
+pub use script::{Script, ScriptError, StepWord, Steps, Streams, Why};
+
+#[cfg(test)]
+mod tests;

@@ -1,0 +1,120 @@
+// Scripts of the form and not of it, at each limit and one past it.
+use crate::{ScriptError, StepWord, Why, read_script};
+use cq_inbox::Request;
+use std::alloc::{AllocError, Global};
+use std::test::Fail;
+
+/// The first bad line and why, or `None` where a script is read.
+fn refusal(alloc: Global, script: &[u8]) -> Result<Option<(u64, Why)>, AllocError> {
+    match read_script(alloc, script) {
+        Ok(_) => Ok(None),
+        Err(ScriptError::Bad { line, why }) => Ok(Some((line, why))),
+        Err(ScriptError::Memory) => Err(AllocError),
+    }
+}
+
+/// A text and then a piece so many times.
+fn repeated(alloc: Global, head: &[u8], piece: &[u8], count: usize) -> Result<Vec<u8>, AllocError> {
+    let mut text = head.to_vec(alloc)?;
+    for _at in 0..count {
+        text.extend_from_slice(piece)?;
+    }
+    Ok(text)
+}
+
+#[test]
+fn a_script_is_read(rt: HostRuntime) -> Result<(), Fail> {
+    let text = b"client 0\npublish 0 text hello\nget 0\nschedule c0 t0 w";
+    let Ok(script) = read_script(rt.alloc(), text) else {
+        assert!(rt; false, "another answer");
+        return Ok(());
+    };
+    assert_eq!(rt; script.config.clients(), 1);
+    assert_eq!(rt; script.config.segment(), 4096);
+    assert_eq!(rt; script.config.threshold(), 4096);
+    assert_eq!(rt; script.config.limit(), 16_777_216);
+    assert_eq!(rt; script.scheduled, Some(4));
+    let steps = [StepWord::Client(0), StepWord::Turn(0), StepWord::Write];
+    assert_eq!(rt; script.steps.words(), steps.as_slice());
+    let [stream] = script.streams.streams() else {
+        assert!(rt; false, "another answer");
+        return Ok(());
+    };
+    let [Request::Publish { queues, body }, Request::Get { queue }] = stream.as_slice() else {
+        assert!(rt; false, "another answer");
+        return Ok(());
+    };
+    assert_eq!(rt; queues.numbers(), [0].as_slice());
+    assert_eq!(rt; body.bytes(), b"hello".as_slice());
+    assert_eq!(rt; *queue, 0);
+    Ok(())
+}
+
+#[test]
+fn the_first_bad_line_is_told(rt: HostRuntime) -> Result<(), Fail> {
+    let rows = [
+        ("", None),
+        ("client 0", None),
+        ("client 0\nget 0\n", None),
+        ("client 0\nschedule w", None),
+        ("client 0\npublish 0 text !~", None),
+        ("\n", Some((1, Why::Word))),
+        ("client 0\n\n", Some((2, Why::Word))),
+        ("client  0", Some((1, Why::Word))),
+        (" client 0", Some((1, Why::Word))),
+        ("client 0 ", Some((1, Why::Word))),
+        ("client\t0", Some((1, Why::Word))),
+        ("client 0\r\nget 0\r\n", Some((1, Why::Word))),
+        ("client 0\npublish 0 text a\x7f", Some((2, Why::Word))),
+        ("# note", Some((1, Why::Word))),
+        ("client", Some((1, Why::Word))),
+        ("client 1", Some((1, Why::Client))),
+        ("client 0\nclient 0", Some((2, Why::Order))),
+        ("get 0\nclient 0", Some((1, Why::Client))),
+        ("publish 0 text a", Some((1, Why::Client))),
+        ("schedule w", Some((1, Why::Client))),
+        ("client 0\nget 1", Some((2, Why::Queue))),
+        ("client 0\nget 0 0", Some((2, Why::Word))),
+        ("client 0\npublish 0", Some((2, Why::Word))),
+        ("client 0\npublish 1 text a", Some((2, Why::Queue))),
+        ("client 0\npublish 0 empty", Some((2, Why::Body))),
+        ("client 0\npublish 0 text a b", Some((2, Why::Body))),
+        ("client 0\nschedule", Some((2, Why::Word))),
+        ("client 0\nschedule w c1", Some((2, Why::Step))),
+        ("client 0\nschedule w\nschedule w", Some((3, Why::Order))),
+        ("client 0\nschedule w\nget 0", Some((3, Why::Order))),
+    ];
+    for (script, answer) in rows {
+        let found = refusal(rt.alloc(), script.as_bytes())?;
+        assert_eq!(rt; found, answer, "at {script}");
+    }
+    Ok(())
+}
+
+#[test]
+fn each_limit_is_kept(rt: HostRuntime) -> Result<(), Fail> {
+    let rows = [
+        ("client 0\npublish 0 text ", "a", 64, None),
+        ("client 0\npublish 0 text ", "a", 65, Some((2, Why::Body))),
+        ("client 0\n", "publish 0 text a\n", 4096, None),
+        (
+            "client 0\n",
+            "publish 0 text a\n",
+            4097,
+            Some((4098, Why::Many)),
+        ),
+        ("client 0\n", "get 0\n", 64, None),
+        ("client 0\n", "get 0\n", 65, Some((66, Why::Many))),
+        ("client 0\nschedule", " w", 10_000, None),
+        ("client 0\nschedule", " w", 10_001, Some((2, Why::Many))),
+        ("", "\n", 1_048_576, Some((1, Why::Word))),
+        ("", "\n", 1_048_577, Some((1_048_577, Why::Long))),
+        ("client 0\n", "a", 1_048_568, Some((2, Why::Long))),
+    ];
+    for (head, piece, count, answer) in rows {
+        let script = repeated(rt.alloc(), head.as_bytes(), piece.as_bytes(), count)?;
+        let found = refusal(rt.alloc(), &script)?;
+        assert_eq!(rt; found, answer, "at {count} of {piece}");
+    }
+    Ok(())
+}

@@ -1,0 +1,72 @@
+// The words of a script that carry a value.
+ghost use Rattle.std.specs.Prelude.{◌≡◌, ◌∷◌, [], ◌≤◌, length, IfOk};
+ghost use Rattle.std.specs.List.{list_all};
+ghost use Rattle.cq_script.specs.Words.{is_text, is_visible, step_of};
+
+use crate::StepWord;
+use cq_bytes::{Body, Queues, QueuesError};
+use cq_inbox::Request;
+use std::alloc::{AllocError, Global};
+
+/// How many bytes a text may have.
+const MOST_TEXT: usize = 64;
+
+/// Whether a word is the text of a body: 1 to 64 bytes from 0x21 to 0x7e.
+pub fn is_text(word: &[u8]) -> bool
+    ensures { result ≡ is_text word.now }
+{
+    if word.is_empty() || word.len() > MOST_TEXT {
+        return false;
+    }
+    all_visible(word)
+}
+
+fn all_visible(word: &[u8]) -> bool
+    ensures { result ≡ list_all is_visible word.now }
+{
+    word.iter().all(|b| is_visible(*b))
+}
+
+/// Whether a byte is from 0x21 to 0x7e.
+fn is_visible(byte: u8) -> bool
+    ensures { result ≡ is_visible byte }
+{
+    33 <= byte && byte <= 126
+}
+
+/// The step that a word of the schedule names.
+pub fn step_of(word: &[u8]) -> Option<StepWord>
+    ensures { result ≡ step_of word.now }
+{
+    if word == b"c0".as_slice() {
+        Some(StepWord::Client(0))
+    } else if word == b"t0".as_slice() {
+        Some(StepWord::Turn(0))
+    } else if word == b"w".as_slice() {
+        Some(StepWord::Write)
+    } else {
+        None
+    }
+}
+
+/// The queue 0 alone.
+fn queue_0(alloc: Global) -> Result<Queues, AllocError>
+    ensures { IfOk result (λ queues. queues ≡ 0 ∷ []) }
+{
+    let mut queues = Queues::new(alloc);
+    match queues.push(0) {
+        Ok(()) => Ok(queues),
+        Err(_) => Err(AllocError),
+    }
+}
+
+/// The request that publishes a text to queue 0.
+pub fn publish(alloc: Global, text: &[u8]) -> Result<Request, AllocError>
+    requires { length text.now ≤ 64 }
+    ensures { IfOk result (λ request. request ≡ Request.Publish (0 ∷ []) text.now) }
+{
+    Ok(Request::Publish {
+        queues: queue_0(alloc)?,
+        body: Body::copy(alloc, text)?,
+    })
+}
