@@ -1,3 +1,4 @@
 pub mod Requests
 pub mod Inbox
 pub mod Config
+pub mod Flags
