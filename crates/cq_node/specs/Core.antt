@@ -11,7 +11,7 @@ use Rattle.cq_journal.specs.Legal.{Legal, published, delivered, brings, has, is_
 use Rattle.cq_journal.specs.Asks.{replies}
 use Rattle.cq_node.specs.Answers.{bodiless}
 
--- the entries, the newest first, and for how many confirms memory is reserved
+-- the entries, the newest first, and for how many more memory is reserved
 pub record State : Type 0 where
   pub entries : List Entry
   pub reserved : ℕ
@@ -55,3 +55,14 @@ pub record IsKept (journal : List Entry) (publishes deliveries confirms : ℕ) (
   pub confirms_below : confirms ≤ publishes
   pub bodies_are : bodies ≡ bodies_of (drop confirms (line journal 0))
   pub places_are : places ≡ confirms - deliveries
+
+-- memory for so many more entries is reserved in each list
+pub record HasRoom (reserved journal_room bodies bodies_capacity places places_capacity told told_capacity : ℕ) : Type 0 where
+  pub journal : reserved ≤ journal_room
+  pub body : reserved + bodies ≤ bodies_capacity
+  pub place : reserved + places ≤ places_capacity
+  pub reply : reserved + told ≤ told_capacity
+
+-- one more message is confirmed, in the order of their publishing
+abbrev pub Confirms : ℕ → List Entry → List Entry → Type 0
+Confirms stamp old new = new ≡ record { event = Confirmed 0 (confirmed old) (confirmed old + 1); stamp = stamp } ∷ old

@@ -37,7 +37,7 @@ pub enum Next {
 }
 
 /// The one queue of one client, and all that happened there. A contract sees the entries of the journal, the newest
-/// first, and for how many confirms memory is reserved.
+/// first, and for how many more entries memory is reserved.
 #[derive(Debug, Drop)]
 pub struct Core {
     alloc: Global,
@@ -52,21 +52,22 @@ pub struct Core {
 }
 
 impl Model for Core {
-    ghost use Rattle.std.specs.Prelude.{length, ◌≤◌, ◌+◌};
-    ghost use Rattle.std.specs.VecDeque.{deque_capacity};
-    ghost use Rattle.cq_node.specs.Core.{State, IsKept};
+    ghost use Rattle.std.specs.Prelude.{length};
+    ghost use Rattle.std.specs.Prelude.{vec_len, vec_capacity};
+    ghost use Rattle.std.specs.VecDeque.{deque_len, deque_capacity};
+    ghost use Rattle.cq_node.specs.Core.{State, IsKept, HasRoom};
 
     ghost Value = { State };
 
     ghost view = { λ a. record { entries = a.journal.entries; reserved = a.reserved } };
 
     ghost invariant = { λ a. IsKept a.journal.entries a.published a.delivered a.confirmed a.bodies.items (length a.places.items) a.told.items
-        × ((a.reserved ≤ a.journal.room) × (a.reserved + length a.places.items ≤ deque_capacity a.places)) };
+        × HasRoom a.reserved a.journal.room (deque_len a.bodies) (deque_capacity a.bodies) (deque_len a.places) (deque_capacity a.places) (vec_len a.told) (vec_capacity a.told) };
 }
 
 impl Core {
     ghost use Rattle.cq_node.specs.Found.{Finds, HoldsFirst, IsFirstBody};
-    ghost use Rattle.cq_node.specs.Core.{undecided, confirmed};
+    ghost use Rattle.cq_node.specs.Core.{undecided, confirmed, Confirms};
 
     /// A core whose folder held no message. The opening is its one entry, with this stamp.
     pub fn open(alloc: Global, stamp: u64) -> Result<Core, AllocError>
@@ -92,20 +93,30 @@ impl Core {
         })
     }
 
-    /// Adds a message to the queue. Where memory runs out nothing has changed.
-    pub fn publish(&mut self, stamp: u64, queues: Queues, body: Body) -> Result<(), AllocError>
-        requires one_queue { queues ≡ 0 ∷ [] }
-        requires room { published self.old.entries 0 < 2 ^ 32 }
-        requires later { newest self.old.entries ≤ stamp }
-        ensures ok { OnOk result (Answers 0 (Request.Publish queues body) stamp self.old.entries self.new.entries) }
-        ensures err { OnErr result (self.new.entries ≡ self.old.entries) }
-        ensures legal { Legal self.new.entries }
+    /// Takes the memory that so many more entries need, but for the bodies. Where it runs out nothing else has changed.
+    pub fn reserve(&mut self, count: usize) -> Result<(), AllocError>
+        ensures entries { self.new.entries ≡ self.old.entries }
+        ensures reserved { OnOk result (self.new.reserved ≡ count) }
     {
         self.reserved = 0;
-        self.journal.reserve(1)?;
-        self.told.reserve(1)?;
-        self.bodies.reserve(1)?;
-        let copy = Body::copy(self.alloc, body.bytes())?;
+        self.journal.reserve(count)?;
+        self.bodies.reserve(count)?;
+        self.places.reserve(count)?;
+        self.told.reserve(count)?;
+        self.reserved = count;
+        Ok(())
+    }
+
+    /// Adds a message to the queue. Its body stands in the journal, and in a copy in memory until it is confirmed.
+    pub fn publish(&mut self, stamp: u64, queues: Queues, body: Body, copy: Body)
+        requires one_queue { queues ≡ 0 ∷ [] }
+        requires same { copy ≡ body }
+        requires few { published self.old.entries 0 < 2 ^ 32 }
+        requires reserved { 0 < self.old.reserved }
+        requires later { newest self.old.entries ≤ stamp }
+        ensures answers { Answers 0 (Request.Publish queues body) stamp self.old.entries self.new.entries }
+        ensures legal { Legal self.new.entries }
+    {
         let number = self.published;
         let event = Event::Published {
             client: 0,
@@ -118,7 +129,7 @@ impl Core {
         self.bodies.push_back_reserved(copy);
         self.told.push_reserved(Reply::Published { number });
         self.published += 1;
-        Ok(())
+        self.reserved -= 1;
     }
 
     /// What the next get finds.
@@ -137,45 +148,39 @@ impl Core {
         }
     }
 
-    /// Answers a get where 64 deliveries are open. Where memory runs out nothing has changed.
-    pub fn busy(&mut self, stamp: u64) -> Result<(), AllocError>
+    /// Answers a get where 64 deliveries are open.
+    pub fn busy(&mut self, stamp: u64)
         requires full { length (unacked self.old.entries 0) ≡ 64 }
+        requires reserved { 0 < self.old.reserved }
         requires later { newest self.old.entries ≤ stamp }
-        ensures ok { OnOk result (Answers 0 (Request.Get 0) stamp self.old.entries self.new.entries) }
-        ensures err { OnErr result (self.new.entries ≡ self.old.entries) }
+        ensures answers { Answers 0 (Request.Get 0) stamp self.old.entries self.new.entries }
         ensures legal { Legal self.new.entries }
     {
-        self.reserved = 0;
-        self.journal.reserve(1)?;
-        self.told.reserve(1)?;
         let event = Event::Busy {
             client: 0,
             queue: 0,
         };
         self.journal.push(Entry { event, stamp });
         self.told.push_reserved(Reply::Busy { queue: 0 });
-        Ok(())
+        self.reserved -= 1;
     }
 
-    /// Answers a get where nothing waits. Where memory runs out nothing has changed.
-    pub fn empty(&mut self, stamp: u64) -> Result<(), AllocError>
+    /// Answers a get where nothing waits.
+    pub fn empty(&mut self, stamp: u64)
         requires room { length (unacked self.old.entries 0) < 64 }
         requires none { waiting self.old.entries 0 ≡ [] }
+        requires reserved { 0 < self.old.reserved }
         requires later { newest self.old.entries ≤ stamp }
-        ensures ok { OnOk result (Answers 0 (Request.Get 0) stamp self.old.entries self.new.entries) }
-        ensures err { OnErr result (self.new.entries ≡ self.old.entries) }
+        ensures answers { Answers 0 (Request.Get 0) stamp self.old.entries self.new.entries }
         ensures legal { Legal self.new.entries }
     {
-        self.reserved = 0;
-        self.journal.reserve(1)?;
-        self.told.reserve(1)?;
         let event = Event::Empty {
             client: 0,
             queue: 0,
         };
         self.journal.push(Entry { event, stamp });
         self.told.push_reserved(Reply::Empty { queue: 0 });
-        Ok(())
+        self.reserved -= 1;
     }
 
     /// A copy of the body of the first message that waits, where that is in memory.
@@ -187,18 +192,15 @@ impl Core {
         Body::copy(self.alloc, self.bodies[at].bytes())
     }
 
-    /// Hands out the first message that waits, whose body this is. Where memory runs out nothing has changed.
-    pub fn deliver(&mut self, stamp: u64, body: Body) -> Result<(), AllocError>
+    /// Hands out the first message that waits, whose body this is.
+    pub fn deliver(&mut self, stamp: u64, body: Body)
         requires room { length (unacked self.old.entries 0) < 64 }
         requires some { 0 < length (waiting self.old.entries 0) }
+        requires reserved { 0 < self.old.reserved }
         requires later { newest self.old.entries ≤ stamp }
-        ensures ok { OnOk result (Answers 0 (Request.Get 0) stamp self.old.entries self.new.entries) }
-        ensures err { OnErr result (self.new.entries ≡ self.old.entries) }
+        ensures answers { Answers 0 (Request.Get 0) stamp self.old.entries self.new.entries }
         ensures legal { Legal self.new.entries }
     {
-        self.reserved = 0;
-        self.journal.reserve(1)?;
-        self.told.reserve(1)?;
         let delivery = self.delivered;
         let event = Event::Delivered {
             client: 0,
@@ -214,7 +216,7 @@ impl Core {
             body,
         });
         self.delivered += 1;
-        Ok(())
+        self.reserved -= 1;
     }
 
     /// The bodies of the messages that aren't confirmed, in the order of their publishing.
@@ -224,24 +226,19 @@ impl Core {
         &self.bodies
     }
 
-    /// Takes the memory that so many confirms need. Where it runs out the entries are as before.
-    pub fn reserve(&mut self, count: usize) -> Result<(), AllocError>
-        ensures entries { self.new.entries ≡ self.old.entries }
-        ensures reserved { OnOk result (self.new.reserved ≡ count) }
+    /// The number of the publish that is confirmed next.
+    pub fn confirmed(&self) -> u64
+        ensures { result ≡ confirmed self.now.entries }
     {
-        self.reserved = 0;
-        self.journal.reserve(count)?;
-        self.places.reserve(count)?;
-        self.reserved = count;
-        Ok(())
+        self.confirmed
     }
 
-    /// Confirms the first message that isn't confirmed, which stands at this place now. It takes no memory.
+    /// Confirms the first message that isn't confirmed, which stands at this place now.
     pub fn confirm(&mut self, stamp: u64, spot: Spot)
         requires some { 0 < undecided self.old.entries }
         requires reserved { 0 < self.old.reserved }
         requires later { newest self.old.entries ≤ stamp }
-        ensures added { self.new.entries ≡ record { event = Event.Confirmed 0 (confirmed self.old.entries) (confirmed self.old.entries + 1); stamp = stamp } ∷ self.old.entries }
+        ensures confirms { Confirms stamp self.old.entries self.new.entries }
         ensures reserved { self.old.reserved ≡ self.new.reserved + 1 }
         ensures legal { Legal self.new.entries }
     {
@@ -267,14 +264,16 @@ impl Core {
 
     /// What happened so far.
     pub fn journal(&self) -> &Journal
-        ensures { result.now.entries ≡ self.now.entries }
+        ensures same { result.now.entries ≡ self.now.entries }
+        ensures legal { Legal self.now.entries }
     {
         &self.journal
     }
 
     /// What happened, at the end.
     pub fn into_journal(self) -> Journal
-        ensures { result.entries ≡ self.entries }
+        ensures same { result.entries ≡ self.entries }
+        ensures legal { Legal result.entries }
     {
         self.journal
     }

@@ -15,7 +15,8 @@ use Rattle.cq_script.specs.declared.script.Script.{Script}
 use Rattle.cq_script.specs.declared.script.ScriptError.{ScriptError}
 use Rattle.cq_script.specs.declared.script.ScriptError.TheVariants as script_error
 use Rattle.cq_script.specs.declared.reading.Reading.{Reading}
-use Rattle.cq_script.specs.Words.{is_publish, is_get, publishes, gets, words, script_lines, line_ends, is_text, is_visible, step_of, is_printable, is_spaced}
+use Rattle.cq_inbox.specs.Requests.{is_publish, publishes}
+use Rattle.cq_script.specs.Words.{is_get, gets, words, script_lines, line_ends, is_text, is_visible, step_of, is_printable, is_spaced}
 use Rattle.cq_script.specs.Grammar.{take_client, among_requests, read_get, take_get, text_of, read_body, read_publish, take_publish, after_step, take_step, take_steps, with_steps, take_schedule, take_words, read_line, at_line, take_line, take_lines, nothing_read, script_of}
 use Rattle.cq_script.specs.Scripts.{IsScript, IsSmall, IsServable, IsStream, IsStep, KeepsLimits}
 use Rattle.cq_script.proofs.Sticky.{take_steps-Err, take_lines-Err}
@@ -196,7 +197,7 @@ pub keeps-limits : (r : Reading) (script : Script) → CanServe r → IsScript r
 keeps-limits r script c i = record {
   in_range = ((omega (arith, i.config_is.clients_is), omega (arith, i.config_is.clients_is)), (omega (arith, i.config_is.segment_is), omega (arith, i.config_is.segment_is)), (omega (arith, i.config_is.threshold_is), omega (arith, i.config_is.threshold_is)), (omega (arith, i.config_is.limit_is), omega (arith, i.config_is.limit_is)));
   one_each = ap length i.streams_is ∙ sym i.config_is.clients_is;
-  streams_are = subst (AllByRecursion IsStream) (sym i.streams_is) (record { few = omega (arith, c.counted, c.few_publishes, c.few_gets); each = c.each }, tt);
+  streams_are = subst (AllByRecursion IsStream) (sym i.streams_is) (record { few_publishes = c.few_publishes; few = omega (arith, c.counted, c.few_publishes, c.few_gets); each = c.each }, tt);
   few_steps = subst (λ (steps : List StepWord). length steps ≤ 10000) (sym i.steps_is) c.few_steps;
   steps_are = subst (λ clients. AllByRecursion (IsStep clients) script.steps) (sym i.config_is.clients_is) (subst (AllByRecursion (IsStep 1)) (sym i.steps_is) c.steps_are);
 }

@@ -3,7 +3,7 @@ use Rattle.std.specs.Prelude.{◌≡◌, ℕ, ◌<◌, ◌≤◌, List, [], ◌�
 use Rattle.std.specs.List.{AllByRecursion}
 use Rattle.cq_inbox.specs.declared.request.Request.{Request}
 use Rattle.cq_inbox.specs.declared.request.Request.TheVariants.{Publish, Get}
-use Rattle.cq_inbox.specs.Requests.{IsRequest}
+use Rattle.cq_inbox.specs.Requests.{IsRequest, publishes}
 use Rattle.cq_inbox.specs.Config.{IsInRange, HasNumbers}
 use Rattle.cq_script.specs.declared.script.StepWord.{StepWord}
 use Rattle.cq_script.specs.declared.script.StepWord.TheVariants.{Client, Turn, Write}
@@ -35,8 +35,9 @@ IsSmall _ = ⊥
 abbrev pub IsServable : Request → Type 0
 IsServable r = IsRequest r × IsSmall r
 
--- a client's requests are at most 4160, and can be served
+-- a client's requests are at most 4160, at most 4096 of them publishes, and can be served
 pub record IsStream (requests : List Request) : Type 0 where
+  pub few_publishes : publishes requests ≤ 4096
   pub few : length requests ≤ 4160
   pub each : AllByRecursion IsServable requests
 

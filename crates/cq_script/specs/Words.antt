@@ -2,6 +2,7 @@
 use Rattle.std.specs.Prelude.{◌≡◌, ℕ, ◌-◌, ◌+◌, ◌<◌, ◌≤◌, Bool, true, false, not, ◌==◌, ◌&&◌, if◌then◌else◌, List, [], ◌∷◌, ◌++◌, length, take, slice_index, map, nat_le, Option, None, Some, codes}
 use Rattle.std.specs.List.{slice_split, list_all, count_by}
 use Rattle.std.specs.Str.{bytes_eq}
+use Rattle.cq_inbox.specs.Requests.{publishes}
 use Rattle.cq_inbox.specs.declared.request.Request.{Request}
 use Rattle.cq_inbox.specs.declared.request.Request.TheVariants.{Publish, Get}
 use Rattle.cq_script.specs.declared.script.StepWord.{StepWord}
@@ -48,19 +49,12 @@ step_of w =
     else if bytes_eq w (codes "w") then Some step.Write
     else None
 
--- whether a request is a publish, and whether it is a get
-abbrev pub is_publish : Request → Bool
-is_publish (Publish queues body) = true
-is_publish _ = false
-
+-- whether a request is a get
 abbrev pub is_get : Request → Bool
 is_get (Get queue) = true
 is_get _ = false
 
--- how many of the requests are publishes, and how many are gets
-abbrev pub publishes : List Request → ℕ
-publishes rs = count_by is_publish rs
-
+-- how many of the requests are gets
 abbrev pub gets : List Request → ℕ
 gets rs = count_by is_get rs
 

@@ -1,6 +1,7 @@
 // The requests of a client, with their counts.
 ghost use Rattle.std.specs.Prelude.{◌≡◌, ◌<◌, ◌++◌, ◌∷◌, [], OnOk, List};
-ghost use Rattle.cq_script.specs.Words.{publishes, gets};
+ghost use Rattle.cq_inbox.specs.Requests.{publishes};
+ghost use Rattle.cq_script.specs.Words.{gets};
 
 use cq_inbox::Request;
 use std::alloc::{AllocError, Global};

@@ -7,7 +7,8 @@ use Rattle.cq_node.proofs.Found.{undecided_is, length-bodies}
 use Rattle.cq_node.proofs.queue.Core.confirm.Goals as goal
 use Rattle.std.proofs.Common.{suc, inl, inr}
 use Rattle.std.proofs.lemmas.Bool.{cases_lt}
-use Rattle.cq_node.specs.Core.{undecided}
+use Rattle.std.proofs.lemmas.List.{length-drop}
+use Rattle.cq_node.specs.Core.{undecided, HasRoom}
 use Rattle.cq_journal.specs.declared.event.Event.TheVariants.{Confirmed}
 use Rattle.cq_journal.specs.declared.event.Entry.{Entry}
 
@@ -25,11 +26,20 @@ invariant_of-self c =
     let kept : IsKept (record { event = Confirmed 0 c.self.inside.confirmed (c.self.inside.confirmed + 1); stamp = c.args.stamp } ∷ c.self.inside.journal.entries) c.self.inside.published c.self.inside.delivered (c.self.inside.confirmed + 1) c.pop_front.new.self.items (length c.keep_place.new.places.items) c.self.inside.told.items
     = kept-confirmed c.args.stamp h later left c.pop_front.new.self.items (length c.keep_place.new.places.items) (sym c.pop_front.ensures.rest) placed in
     let reserved : 0 < c.self.inside.reserved = subst (λ (v : State). 0 < v.reserved) (sym c.self.view_is) c.requires.reserved in
-    let room : length c.keep_place.new.places.items ≤ length c.self.inside.places.items + 1 = elim (cases_lt c.self.inside.confirmed c.self.inside.delivered) [
+    let room = c.self.invariant.1 in
+    let more : length c.keep_place.new.places.items ≤ length c.self.inside.places.items + 1 = elim (cases_lt c.self.inside.confirmed c.self.inside.delivered) [
       | inl handed ↦ omega (arith, c.keep_place.ensures.handed handed)
       | inr waits ↦ omega (arith, c.keep_place.ensures.waits waits)
     ] in
-    (kept_at kept is refl refl refl, (omega (arith, c.self.invariant.1.0, c.push.ensures.room), omega (arith, c.self.invariant.1.1, c.keep_place.ensures.capacity, room, reserved)))
+    let less : length c.pop_front.new.self.items ≡ length c.self.inside.bodies.items - 1 = ap length c.pop_front.ensures.rest ∙ length-drop 1 c.self.inside.bodies.items in (
+      kept_at kept is refl refl refl,
+      record {
+        journal = omega (arith, room.journal, c.push.ensures.room);
+        body = omega (arith, room.body, less, c.pop_front.ensures.capacity);
+        place = omega (arith, room.place, c.keep_place.ensures.capacity, more);
+        reply = omega (arith, room.reply);
+      },
+    )
 
 pub returns-clause-legal : goal.returns-clause-legal
 returns-clause-legal c =

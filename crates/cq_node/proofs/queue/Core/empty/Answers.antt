@@ -1,16 +1,26 @@
 use Rattle.std.proofs.Common.{◌≡◌, ℕ, ◌+◌, ◌-◌, ◌<◌, ◌≤◌, List, [], ◌∷◌, ◌++◌, length, refl, sym, ap, ◌∙◌, subst, arith}
+use Rattle.std.specs.Prelude.{vec_len, vec_capacity}
+use Rattle.std.specs.VecDeque.{deque_len, deque_capacity}
 use Rattle.cq_journal.specs.History.{unacked, waiting}
 use Rattle.cq_journal.specs.Legal.{newest, Legal}
-use Rattle.cq_node.specs.Core.{State, IsKept}
+use Rattle.cq_journal.specs.declared.event.Event.TheVariants.{Empty}
+use Rattle.cq_journal.specs.declared.event.Entry.{Entry}
+use Rattle.cq_node.specs.Core.{State, IsKept, HasRoom}
 use Rattle.cq_node.proofs.Steps.{kept-empty, kept_at}
-use Rattle.cq_node.proofs.Found.{length-waiting}
 use Rattle.cq_node.proofs.queue.Core.empty.Goals as goal
 
-pub invariant_of-self-2 : goal.invariant_of-self-2
-invariant_of-self-2 c =
+pub invariant_of-self : goal.invariant_of-self
+invariant_of-self c =
     let later : newest c.self.inside.journal.entries ≤ c.args.stamp = subst (λ (v : State). newest v.entries ≤ c.args.stamp) (sym c.self.view_is) c.requires.later in
-    let room : length (unacked c.self.inside.journal.entries 0) < 64 = subst (λ (v : State). length (unacked v.entries 0) < 64) (sym c.self.view_is) c.requires.room in
+    let reserved : 0 < c.self.inside.reserved = subst (λ (v : State). 0 < v.reserved) (sym c.self.view_is) c.requires.reserved in
+    let room = c.self.invariant.1 in
+    let few : length (unacked c.self.inside.journal.entries 0) < 64 = subst (λ (v : State). length (unacked v.entries 0) < 64) (sym c.self.view_is) c.requires.room in
     let none : waiting c.self.inside.journal.entries 0 ≡ [] = subst (λ (v : State). waiting v.entries 0 ≡ []) (sym c.self.view_is) c.requires.none in (
-      kept_at (kept-empty c.args.stamp c.self.invariant.0 later room none) (cc (c.push.ensures.entries, c.in_ok-reserve.ensures.entries)) refl refl (cc (c.push_reserved.ensures.items, c.in_ok-reserve-2.ensures.items)),
-      (omega arith, omega (arith, c.self.invariant.1.1)),
+      kept_at (kept-empty c.args.stamp c.self.invariant.0 later few none) c.push.ensures.entries refl refl c.push_reserved.ensures.items,
+      record {
+        journal = omega (arith, room.journal, c.push.ensures.room);
+        body = omega (arith, room.body);
+        place = omega (arith, room.place);
+        reply = omega (arith, room.reply, c.push_reserved.ensures.len, c.push_reserved.ensures.capacity);
+      },
     )

@@ -1,23 +1,31 @@
 use Rattle.std.proofs.Common.{◌≡◌, ℕ, ◌+◌, ◌-◌, ◌<◌, ◌≤◌, List, [], ◌∷◌, ◌++◌, length, refl, sym, ap, ◌∙◌, subst, arith}
+use Rattle.std.specs.Prelude.{vec_len, vec_capacity}
+use Rattle.std.specs.VecDeque.{deque_len, deque_capacity}
 use Rattle.cq_journal.specs.History.{unacked, waiting}
 use Rattle.cq_journal.specs.Legal.{newest, Legal}
-use Rattle.cq_node.specs.Core.{State, IsKept}
-use Rattle.cq_node.proofs.Steps.{kept-published, kept_at}
-use Rattle.cq_node.proofs.Found.{length-waiting}
-use Rattle.cq_node.proofs.queue.Core.publish.Goals as goal
 use Rattle.cq_journal.specs.declared.event.Event.TheVariants.{Published}
 use Rattle.cq_journal.specs.declared.event.Entry.{Entry}
+use Rattle.cq_node.specs.Core.{State, IsKept, HasRoom}
+use Rattle.cq_node.proofs.Steps.{kept-published, kept_at}
+use Rattle.cq_node.proofs.queue.Core.publish.Goals as goal
 
-pub invariant_of-self-2 : goal.invariant_of-self-2
-invariant_of-self-2 c =
+pub invariant_of-self : goal.invariant_of-self
+invariant_of-self c =
     let later : newest c.self.inside.journal.entries ≤ c.args.stamp = subst (λ (v : State). newest v.entries ≤ c.args.stamp) (sym c.self.view_is) c.requires.later in
-    let is : c.push.new.self.entries ≡ record { event = Published 0 c.self.inside.published (c.self.inside.published + 1) (0 ∷ []) c.args.body; stamp = c.args.stamp } ∷ c.self.inside.journal.entries = cc (c.push.ensures.entries, c.in_ok-reserve.ensures.entries, c.from.ensures, c.requires.one_queue) in (
-      kept_at (kept-published c.args.stamp c.args.body c.self.invariant.0 later) is (cc (c.push_back_reserved.ensures.items, c.in_ok-reserve-3.ensures.items, c.in_ok-copy.ensures, c.bytes.ensures.same)) refl (cc (c.push_reserved.ensures.items, c.in_ok-reserve-2.ensures.items)),
-      (omega arith, omega (arith, c.self.invariant.1.1)),
+    let is : c.push.new.self.entries ≡ record { event = Published 0 c.self.inside.published (c.self.inside.published + 1) (0 ∷ []) c.args.body; stamp = c.args.stamp } ∷ c.self.inside.journal.entries = cc (c.push.ensures.entries, c.from.ensures, c.requires.one_queue) in
+    let reserved : 0 < c.self.inside.reserved = subst (λ (v : State). 0 < v.reserved) (sym c.self.view_is) c.requires.reserved in
+    let room = c.self.invariant.1 in (
+      kept_at (kept-published c.args.stamp c.args.body c.self.invariant.0 later) is (cc (c.push_back_reserved.ensures.items, c.requires.same)) refl c.push_reserved.ensures.items,
+      record {
+        journal = omega (arith, room.journal, c.push.ensures.room);
+        body = omega (arith, room.body, c.push_back_reserved.ensures.len, c.push_back_reserved.ensures.capacity);
+        place = omega (arith, room.place);
+        reply = omega (arith, room.reply, c.push_reserved.ensures.len, c.push_reserved.ensures.capacity);
+      },
     )
 
 pub returns-clause-legal : goal.returns-clause-legal
 returns-clause-legal c =
     let later : newest c.self.inside.journal.entries ≤ c.args.stamp = subst (λ (v : State). newest v.entries ≤ c.args.stamp) (sym c.self.view_is) c.requires.later in
-    let is : c.push.new.self.entries ≡ record { event = Published 0 c.self.inside.published (c.self.inside.published + 1) (0 ∷ []) c.args.body; stamp = c.args.stamp } ∷ c.self.inside.journal.entries = cc (c.push.ensures.entries, c.in_ok-reserve.ensures.entries, c.from.ensures, c.requires.one_queue) in
+    let is : c.push.new.self.entries ≡ record { event = Published 0 c.self.inside.published (c.self.inside.published + 1) (0 ∷ []) c.args.body; stamp = c.args.stamp } ∷ c.self.inside.journal.entries = cc (c.push.ensures.entries, c.from.ensures, c.requires.one_queue) in
     subst Legal (sym is) (kept-published c.args.stamp c.args.body c.self.invariant.0 later).legal
