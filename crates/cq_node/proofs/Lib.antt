@@ -1,3 +1,5 @@
 pub mod Numbered
 pub mod Steps
 pub mod Found
+pub mod Places
+pub mod Batches

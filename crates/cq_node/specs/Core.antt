@@ -8,13 +8,20 @@ use Rattle.cq_journal.specs.declared.event.Message.{Message}
 use Rattle.cq_journal.specs.declared.reply.Reply.{Reply}
 use Rattle.cq_journal.specs.History.{line, waiting, unacked}
 use Rattle.cq_journal.specs.Legal.{Legal, published, delivered, brings, has, is_publish, is_confirmed_by}
-use Rattle.cq_journal.specs.Asks.{replies}
+use Rattle.cq_journal.specs.Asks.{asks, replies}
+use Rattle.cq_node.specs.declared.queue.Spot.{Spot}
 use Rattle.cq_node.specs.Answers.{bodiless}
 
--- the entries, the newest first, and for how many more memory is reserved
+-- the entries, the newest first, for how many more memory is reserved, and a bound on the places of the small store
 pub record State : Type 0 where
   pub entries : List Entry
   pub reserved : ℕ
+  pub top : ℕ
+
+-- each of these records ends at or before this place
+abbrev pub EndBy : ℕ → List Spot → Type 0
+EndBy top [] = Unit {0}
+EndBy top (s ∷ spots) = (s.place + s.len + 5 ≤ top) × EndBy top spots
 
 -- 1 where the event confirms a message
 abbrev pub confirms : Event → ℕ
@@ -66,3 +73,8 @@ pub record HasRoom (reserved journal_room bodies bodies_capacity places places_c
 -- one more message is confirmed, in the order of their publishing
 abbrev pub Confirms : ℕ → List Entry → List Entry → Type 0
 Confirms stamp old new = new ≡ record { event = Confirmed 0 (confirmed old) (confirmed old + 1); stamp = stamp } ∷ old
+
+-- the new entries say the same of requests and publishes
+pub record IsQuiet (old new : List Entry) : Type 0 where
+  pub asked : asks new 0 ≡ asks old 0
+  pub published_same : published new 0 ≡ published old 0

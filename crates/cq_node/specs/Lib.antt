@@ -1,3 +1,6 @@
 pub mod Core
 pub mod Answers
 pub mod Found
+pub mod Waiting
+pub mod Batch
+pub mod Confirming

@@ -37,7 +37,7 @@ pub enum Next {
 }
 
 /// The one queue of one client, and all that happened there. A contract sees the entries of the journal, the newest
-/// first, and for how many more entries memory is reserved.
+/// first, for how many more entries memory is reserved, and a bound on the places of the small store.
 #[derive(Debug, Drop)]
 pub struct Core {
     alloc: Global,
@@ -49,30 +49,33 @@ pub struct Core {
     delivered: u32,
     confirmed: u64,
     reserved: usize,
+    top: u64,
 }
 
 impl Model for Core {
     ghost use Rattle.std.specs.Prelude.{length};
     ghost use Rattle.std.specs.Prelude.{vec_len, vec_capacity};
     ghost use Rattle.std.specs.VecDeque.{deque_len, deque_capacity};
-    ghost use Rattle.cq_node.specs.Core.{State, IsKept, HasRoom};
+    ghost use Rattle.cq_node.specs.Core.{State, IsKept, HasRoom, EndBy};
 
     ghost Value = { State };
 
-    ghost view = { λ a. record { entries = a.journal.entries; reserved = a.reserved } };
+    ghost view = { λ a. record { entries = a.journal.entries; reserved = a.reserved; top = a.top } };
 
     ghost invariant = { λ a. IsKept a.journal.entries a.published a.delivered a.confirmed a.bodies.items (length a.places.items) a.told.items
-        × HasRoom a.reserved a.journal.room (deque_len a.bodies) (deque_capacity a.bodies) (deque_len a.places) (deque_capacity a.places) (vec_len a.told) (vec_capacity a.told) };
+        × HasRoom a.reserved a.journal.room (deque_len a.bodies) (deque_capacity a.bodies) (deque_len a.places) (deque_capacity a.places) (vec_len a.told) (vec_capacity a.told)
+        × EndBy a.top a.places.items };
 }
 
 impl Core {
     ghost use Rattle.cq_node.specs.Found.{Finds, HoldsFirst, IsFirstBody};
-    ghost use Rattle.cq_node.specs.Core.{undecided, confirmed, Confirms};
+    ghost use Rattle.cq_node.specs.Core.{undecided, confirmed, Confirms, IsQuiet, EndBy};
 
     /// A core whose folder held no message. The opening is its one entry, with this stamp.
     pub fn open(alloc: Global, stamp: u64) -> Result<Core, AllocError>
         ensures opened { IfOk result (λ core. core.entries ≡ (record { event = Event.Opened []; stamp = stamp }) ∷ []) }
         ensures legal { IfOk result (λ core. Legal core.entries) }
+        ensures top { IfOk result (λ core. core.top ≡ 0) }
     {
         let mut journal = Journal::new(alloc);
         journal.reserve(1)?;
@@ -90,12 +93,14 @@ impl Core {
             delivered: 0,
             confirmed: 0,
             reserved: 0,
+            top: 0,
         })
     }
 
     /// Takes the memory that so many more entries need, but for the bodies. Where it runs out nothing else has changed.
     pub fn reserve(&mut self, count: usize) -> Result<(), AllocError>
         ensures entries { self.new.entries ≡ self.old.entries }
+        ensures top { self.new.top ≡ self.old.top }
         ensures reserved { OnOk result (self.new.reserved ≡ count) }
     {
         self.reserved = 0;
@@ -115,6 +120,7 @@ impl Core {
         requires reserved { 0 < self.old.reserved }
         requires later { newest self.old.entries ≤ stamp }
         ensures answers { Answers 0 (Request.Publish queues body) stamp self.old.entries self.new.entries }
+        ensures top { self.new.top ≡ self.old.top }
         ensures legal { Legal self.new.entries }
     {
         let number = self.published;
@@ -134,7 +140,7 @@ impl Core {
 
     /// What the next get finds.
     pub fn next(&self) -> Next
-        ensures { Finds result self.now.entries }
+        ensures { Finds result self.now }
     {
         if self.delivered >= MOST_OPEN {
             return Next::Busy;
@@ -142,10 +148,10 @@ impl Core {
         if u64::from(self.delivered) >= self.published {
             return Next::Empty;
         }
-        match self.places.front() {
-            Some(spot) => Next::Stored(*spot),
-            None => Next::Held,
+        if self.places.is_empty() {
+            return Next::Held;
         }
+        Next::Stored(self.places[0])
     }
 
     /// Answers a get where 64 deliveries are open.
@@ -154,6 +160,7 @@ impl Core {
         requires reserved { 0 < self.old.reserved }
         requires later { newest self.old.entries ≤ stamp }
         ensures answers { Answers 0 (Request.Get 0) stamp self.old.entries self.new.entries }
+        ensures top { self.new.top ≡ self.old.top }
         ensures legal { Legal self.new.entries }
     {
         let event = Event::Busy {
@@ -172,6 +179,7 @@ impl Core {
         requires reserved { 0 < self.old.reserved }
         requires later { newest self.old.entries ≤ stamp }
         ensures answers { Answers 0 (Request.Get 0) stamp self.old.entries self.new.entries }
+        ensures top { self.new.top ≡ self.old.top }
         ensures legal { Legal self.new.entries }
     {
         let event = Event::Empty {
@@ -199,6 +207,7 @@ impl Core {
         requires reserved { 0 < self.old.reserved }
         requires later { newest self.old.entries ≤ stamp }
         ensures answers { Answers 0 (Request.Get 0) stamp self.old.entries self.new.entries }
+        ensures top { self.new.top ≡ self.old.top }
         ensures legal { Legal self.new.entries }
     {
         let delivery = self.delivered;
@@ -233,13 +242,46 @@ impl Core {
         self.confirmed
     }
 
+    /// Confirms the messages that aren't confirmed, which stand at these places now, each of which ends at or before
+    /// the top.
+    pub fn confirm_all(&mut self, stamp: u64, spots: &[Spot], top: u64)
+        requires all { length spots.now ≡ undecided self.old.entries }
+        requires reserved { length spots.now ≤ self.old.reserved }
+        requires top { self.old.top ≤ top }
+        requires places { EndBy top spots.now }
+        requires later { newest self.old.entries ≤ stamp }
+        ensures none { undecided self.new.entries ≡ 0 }
+        ensures quiet { IsQuiet self.old.entries self.new.entries }
+        ensures later { newest self.new.entries ≤ stamp }
+        ensures top { self.new.top ≡ top }
+        ensures legal { Legal self.new.entries }
+    {
+        self.raise(top);
+        for spot in spots {
+            self.confirm(stamp, *spot);
+        }
+    }
+
+    /// Raises the bound on the places.
+    fn raise(&mut self, top: u64)
+        requires { self.old.top ≤ top }
+        ensures same { (self.new.entries ≡ self.old.entries) × (self.new.reserved ≡ self.old.reserved) }
+        ensures top { self.new.top ≡ top }
+        ensures legal { Legal self.new.entries }
+    {
+        self.top = top;
+    }
+
     /// Confirms the first message that isn't confirmed, which stands at this place now.
-    pub fn confirm(&mut self, stamp: u64, spot: Spot)
+    fn confirm(&mut self, stamp: u64, spot: Spot)
         requires some { 0 < undecided self.old.entries }
         requires reserved { 0 < self.old.reserved }
+        requires place { spot.place + spot.len + 5 ≤ self.old.top }
         requires later { newest self.old.entries ≤ stamp }
         ensures confirms { Confirms stamp self.old.entries self.new.entries }
+        ensures left { undecided self.old.entries ≡ undecided self.new.entries + 1 }
         ensures reserved { self.old.reserved ≡ self.new.reserved + 1 }
+        ensures top { self.new.top ≡ self.old.top }
         ensures legal { Legal self.new.entries }
     {
         let number = self.confirmed;
@@ -282,8 +324,8 @@ impl Core {
 /// Keeps the place of a message that is confirmed, unless it was handed out.
 fn keep_place(places: &mut VecDeque<Spot>, delivered: u32, number: u64, spot: Spot)
     requires room { deque_len places.old < deque_capacity places.old }
-    ensures waits { delivered ≤ number → length places.new.items ≡ length places.old.items + 1 }
-    ensures handed { number < delivered → length places.new.items ≡ length places.old.items }
+    ensures waits { delivered ≤ number → places.new.items ≡ places.old.items ++ spot ∷ [] }
+    ensures handed { number < delivered → places.new.items ≡ places.old.items }
     ensures capacity { deque_capacity places.new ≡ deque_capacity places.old }
 {
     if u64::from(delivered) <= number {

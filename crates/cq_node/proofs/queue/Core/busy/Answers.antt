@@ -22,4 +22,5 @@ invariant_of-self c =
         place = omega (arith, room.place);
         reply = omega (arith, room.reply, c.push_reserved.ensures.len, c.push_reserved.ensures.capacity);
       },
+      c.self.invariant.2,
     )

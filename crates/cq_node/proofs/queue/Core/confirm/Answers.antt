@@ -7,7 +7,10 @@ use Rattle.cq_node.proofs.Found.{undecided_is, length-bodies}
 use Rattle.cq_node.proofs.queue.Core.confirm.Goals as goal
 use Rattle.std.proofs.Common.{suc, inl, inr}
 use Rattle.std.proofs.lemmas.Bool.{cases_lt}
-use Rattle.std.proofs.lemmas.List.{length-drop}
+use Rattle.std.proofs.lemmas.List.{length-drop, length-append}
+use Rattle.cq_node.specs.declared.queue.Spot.{Spot}
+use Rattle.cq_node.specs.Core.{EndBy}
+use Rattle.cq_node.proofs.Places.{end_by-push}
 use Rattle.cq_node.specs.Core.{undecided, HasRoom}
 use Rattle.cq_journal.specs.declared.event.Event.TheVariants.{Confirmed}
 use Rattle.cq_journal.specs.declared.event.Entry.{Entry}
@@ -20,16 +23,16 @@ invariant_of-self c =
     let left : c.self.inside.confirmed < c.self.inside.published = omega (arith, undecided_is h, length-bodies h) in
     let is : c.push.new.self.entries ≡ record { event = Confirmed 0 c.self.inside.confirmed (c.self.inside.confirmed + 1); stamp = c.args.stamp } ∷ c.self.inside.journal.entries = cc (c.push.ensures.entries, c.from.ensures) in
     let placed : length c.keep_place.new.places.items ≡ suc c.self.inside.confirmed - c.self.inside.delivered = elim (cases_lt c.self.inside.confirmed c.self.inside.delivered) [
-      | inl handed ↦ omega (arith, h.places_are, c.keep_place.ensures.handed handed)
-      | inr waits ↦ omega (arith, h.places_are, c.keep_place.ensures.waits waits)
+      | inl handed ↦ omega (arith, h.places_are, ap length (c.keep_place.ensures.handed handed))
+      | inr waits ↦ omega (arith, h.places_are, ap length (c.keep_place.ensures.waits waits), length-append c.self.inside.places.items (c.args.spot ∷ []))
     ] in
     let kept : IsKept (record { event = Confirmed 0 c.self.inside.confirmed (c.self.inside.confirmed + 1); stamp = c.args.stamp } ∷ c.self.inside.journal.entries) c.self.inside.published c.self.inside.delivered (c.self.inside.confirmed + 1) c.pop_front.new.self.items (length c.keep_place.new.places.items) c.self.inside.told.items
     = kept-confirmed c.args.stamp h later left c.pop_front.new.self.items (length c.keep_place.new.places.items) (sym c.pop_front.ensures.rest) placed in
     let reserved : 0 < c.self.inside.reserved = subst (λ (v : State). 0 < v.reserved) (sym c.self.view_is) c.requires.reserved in
     let room = c.self.invariant.1 in
     let more : length c.keep_place.new.places.items ≤ length c.self.inside.places.items + 1 = elim (cases_lt c.self.inside.confirmed c.self.inside.delivered) [
-      | inl handed ↦ omega (arith, c.keep_place.ensures.handed handed)
-      | inr waits ↦ omega (arith, c.keep_place.ensures.waits waits)
+      | inl handed ↦ omega (arith, ap length (c.keep_place.ensures.handed handed))
+      | inr waits ↦ omega (arith, ap length (c.keep_place.ensures.waits waits), length-append c.self.inside.places.items (c.args.spot ∷ []))
     ] in
     let less : length c.pop_front.new.self.items ≡ length c.self.inside.bodies.items - 1 = ap length c.pop_front.ensures.rest ∙ length-drop 1 c.self.inside.bodies.items in (
       kept_at kept is refl refl refl,
@@ -39,6 +42,10 @@ invariant_of-self c =
         place = omega (arith, room.place, c.keep_place.ensures.capacity, more);
         reply = omega (arith, room.reply);
       },
+      elim (cases_lt c.self.inside.confirmed c.self.inside.delivered) [
+        | inl handed ↦ subst (λ (spots : List Spot). EndBy c.self.inside.top spots) (sym (c.keep_place.ensures.handed handed)) c.self.invariant.2
+        | inr waits ↦ subst (λ (spots : List Spot). EndBy c.self.inside.top spots) (sym (c.keep_place.ensures.waits waits)) (end_by-push c.self.inside.top c.self.inside.places.items c.args.spot c.self.invariant.2 (subst (λ (v : State). c.args.spot.place + c.args.spot.len + 5 ≤ v.top) (sym c.self.view_is) c.requires.place))
+      ],
     )
 
 pub returns-clause-legal : goal.returns-clause-legal
@@ -49,8 +56,8 @@ returns-clause-legal c =
     let left : c.self.inside.confirmed < c.self.inside.published = omega (arith, undecided_is h, length-bodies h) in
     let is : c.push.new.self.entries ≡ record { event = Confirmed 0 c.self.inside.confirmed (c.self.inside.confirmed + 1); stamp = c.args.stamp } ∷ c.self.inside.journal.entries = cc (c.push.ensures.entries, c.from.ensures) in
     let placed : length c.keep_place.new.places.items ≡ suc c.self.inside.confirmed - c.self.inside.delivered = elim (cases_lt c.self.inside.confirmed c.self.inside.delivered) [
-      | inl handed ↦ omega (arith, h.places_are, c.keep_place.ensures.handed handed)
-      | inr waits ↦ omega (arith, h.places_are, c.keep_place.ensures.waits waits)
+      | inl handed ↦ omega (arith, h.places_are, ap length (c.keep_place.ensures.handed handed))
+      | inr waits ↦ omega (arith, h.places_are, ap length (c.keep_place.ensures.waits waits), length-append c.self.inside.places.items (c.args.spot ∷ []))
     ] in
     let kept : IsKept (record { event = Confirmed 0 c.self.inside.confirmed (c.self.inside.confirmed + 1); stamp = c.args.stamp } ∷ c.self.inside.journal.entries) c.self.inside.published c.self.inside.delivered (c.self.inside.confirmed + 1) c.pop_front.new.self.items (length c.keep_place.new.places.items) c.self.inside.told.items
     = kept-confirmed c.args.stamp h later left c.pop_front.new.self.items (length c.keep_place.new.places.items) (sym c.pop_front.ensures.rest) placed in

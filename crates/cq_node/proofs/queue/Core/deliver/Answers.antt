@@ -9,6 +9,9 @@ use Rattle.cq_node.specs.Core.{State, IsKept, HasRoom}
 use Rattle.cq_node.proofs.Steps.{kept-delivered, kept_at}
 use Rattle.cq_node.proofs.queue.Core.deliver.Goals as goal
 use Rattle.std.proofs.lemmas.List.{length-drop}
+use Rattle.cq_node.specs.declared.queue.Spot.{Spot}
+use Rattle.cq_node.specs.Core.{EndBy}
+use Rattle.cq_node.proofs.Places.{end_by-drop}
 use Rattle.cq_node.proofs.Found.{length-waiting}
 
 pub invariant_of-self : goal.invariant_of-self
@@ -30,6 +33,7 @@ invariant_of-self c =
         place = omega (arith, room.place, places, c.pop_front.ensures.capacity);
         reply = omega (arith, room.reply, c.push_reserved.ensures.len, c.push_reserved.ensures.capacity);
       },
+      subst (λ (spots : List Spot). EndBy c.self.inside.top spots) (sym c.pop_front.ensures.rest) (end_by-drop c.self.inside.top c.self.inside.places.items c.self.invariant.2),
     )
 
 pub returns-clause-legal : goal.returns-clause-legal

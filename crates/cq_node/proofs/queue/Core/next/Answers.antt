@@ -1,7 +1,10 @@
 use Rattle.std.proofs.Common.{◌≡◌, ℕ, ◌+◌, ◌-◌, ◌<◌, ◌≤◌, List, [], length, refl, sym, ap, ◌∙◌, subst, arith}
 use Rattle.cq_journal.specs.History.{unacked, waiting}
 use Rattle.std.proofs.Common.{inl, inr}
-use Rattle.std.proofs.lemmas.Bool.{cases_lt, false≢true}
+use Rattle.std.proofs.lemmas.Bool.{eqb-true, eqb-false}
+use Rattle.std.specs.VecDeque.{deque_len}
+use Rattle.cq_node.specs.declared.queue.Spot.{Spot}
+use Rattle.cq_node.proofs.Places.{end_by-at}
 use Rattle.cq_node.specs.Core.{State}
 use Rattle.cq_node.specs.Found.{HoldsFirst}
 use Rattle.cq_node.proofs.Found.{length-waiting, none_waits}
@@ -10,18 +13,18 @@ use Rattle.cq_node.proofs.queue.Core.next.Goals as goal
 pub returns-then-from-self : goal.returns-then-from-self
 returns-then-from-self c = subst (λ (v : State). (length (unacked v.entries 0) < 64) × (waiting v.entries 0 ≡ [])) c.self.view_is (omega (arith, c.self.invariant.0.open_is), none_waits c.self.invariant.0 (omega (arith, c.from.ensures)))
 
-pub returns-in-Some : goal.returns-in-Some
-returns-in-Some c =
+pub returns : goal.returns
+returns c =
     let h = c.self.invariant.0 in
-    subst (λ (v : State). (length (unacked v.entries 0) < 64) × (0 < length (waiting v.entries 0))) c.self.view_is
-    (omega (arith, h.open_is), omega (arith, length-waiting h, c.from.ensures))
+    let spot : Spot = c.index.result.now in
+    let some : 0 < length c.self.inside.places.items = omega (arith, eqb-false (deque_len c.self.inside.places) 0 (sym c.is_empty.ensures ∙ c.if-is_empty.false)) in
+    let ends : spot.place + spot.len + 5 ≤ c.self.inside.top = subst (λ (s : Spot). s.place + s.len + 5 ≤ c.self.inside.top) (sym c.index.ensures) (end_by-at c.self.inside.top c.self.inside.places.items 0 spot c.self.invariant.2 some) in
+    subst (λ (v : State). (length (unacked v.entries 0) < 64) × (0 < length (waiting v.entries 0)) × (spot.place + spot.len + 5 ≤ v.top)) c.self.view_is
+    (omega (arith, h.open_is), omega (arith, length-waiting h, c.from.ensures), ends)
 
-pub returns-in-None : goal.returns-in-None
-returns-in-None c =
+pub returns-then-is_empty : goal.returns-then-is_empty
+returns-then-is_empty c =
     let h = c.self.invariant.0 in
-    let empty : c.self.inside.confirmed ≤ c.self.inside.delivered = elim (cases_lt 0 (length c.self.inside.places.items)) [
-      | inl some ↦ absurd (false≢true (c.in-None.ensures.variant.1 (omega arith)))
-      | inr none ↦ omega (arith, h.places_are)
-    ] in
+    let none : deque_len c.self.inside.places ≡ 0 = eqb-true (deque_len c.self.inside.places) 0 (sym c.is_empty.ensures ∙ c.if-is_empty.true) in
     subst (λ (v : State). (length (unacked v.entries 0) < 64) × HoldsFirst v.entries) c.self.view_is
-    (omega (arith, h.open_is), (omega (arith, length-waiting h, c.from.ensures), omega (arith, h.confirmed_is, h.delivered_is)))
+    (omega (arith, h.open_is), (omega (arith, length-waiting h, c.from.ensures), omega (arith, h.confirmed_is, h.delivered_is, h.places_are, none)))
