@@ -1,2 +1,3 @@
 pub mod Sticky
 pub mod Limits
+pub mod Spelled

@@ -17,8 +17,8 @@ use Rattle.cq_script.specs.declared.script.ScriptError.TheVariants as script_err
 use Rattle.cq_script.specs.declared.reading.Reading.{Reading}
 use Rattle.cq_inbox.specs.Requests.{is_publish, publishes}
 use Rattle.cq_script.specs.Words.{is_get, gets, words, script_lines, line_ends, is_text, is_visible, step_of, is_printable, is_spaced}
-use Rattle.cq_script.specs.Grammar.{take_client, among_requests, read_get, take_get, text_of, read_body, read_publish, take_publish, after_step, take_step, take_steps, with_steps, take_schedule, take_words, read_line, at_line, take_line, take_lines, nothing_read, script_of}
-use Rattle.cq_script.specs.Scripts.{IsScript, IsSmall, IsServable, IsStream, IsStep, KeepsLimits}
+use Rattle.cq_script.specs.Grammar.{take_client, among_requests, read_get, take_get, text_of, read_body, read_publish, take_publish, after_step, take_steps, with_steps, take_schedule, take_words, read_line, at_line, take_line, take_lines, nothing_read, script_of}
+use Rattle.cq_script.specs.Scripts.{ReadsScript, IsScript, IsServable, IsStream, IsStep, KeepsLimits}
 use Rattle.cq_script.proofs.Sticky.{take_steps-Err, take_lines-Err}
 
 -- what holds of all that the lines so far say
@@ -187,17 +187,23 @@ lines-serve n r s (l ∷ ls) c h =
     ]) refl h
 
 -- what a script says can be served
-pub script-serves : (bytes : List ℕ) (s : Reading) → script_of bytes ≡ Ok s → CanServe s
+script-serves : (bytes : List ℕ) (s : Reading) → script_of bytes ≡ Ok s → CanServe s
 script-serves bytes s h =
     let p = passed (nat_lt 1048576 (length bytes)) (script_error.Bad (line_ends (take 1048576 bytes) + 1) why.Long) _ s h in
     lines-serve 1 nothing_read s (script_lines bytes) (record { each = tt; counted = refl; few_publishes = omega arith; few_gets = omega arith; steps_are = tt; few_steps = omega arith }) p.1
 
 -- the script that is made of it keeps the limits
-pub keeps-limits : (r : Reading) (script : Script) → CanServe r → IsScript r script → KeepsLimits script
+keeps-limits : (r : Reading) (script : Script) → CanServe r → IsScript r script → KeepsLimits script
 keeps-limits r script c i = record {
   in_range = ((omega (arith, i.config_is.clients_is), omega (arith, i.config_is.clients_is)), (omega (arith, i.config_is.segment_is), omega (arith, i.config_is.segment_is)), (omega (arith, i.config_is.threshold_is), omega (arith, i.config_is.threshold_is)), (omega (arith, i.config_is.limit_is), omega (arith, i.config_is.limit_is)));
+  one_client = i.config_is.clients_is;
   one_each = ap length i.streams_is ∙ sym i.config_is.clients_is;
   streams_are = subst (AllByRecursion IsStream) (sym i.streams_is) (record { few_publishes = c.few_publishes; few = omega (arith, c.counted, c.few_publishes, c.few_gets); each = c.each }, tt);
   few_steps = subst (λ (steps : List StepWord). length steps ≤ 10000) (sym i.steps_is) c.few_steps;
   steps_are = subst (λ clients. AllByRecursion (IsStep clients) script.steps) (sym i.config_is.clients_is) (subst (AllByRecursion (IsStep 1)) (sym i.steps_is) c.steps_are);
 }
+
+-- a reader that is exact keeps the limits
+pub read-keeps : (result : Result Script ScriptError) (bytes : List ℕ) → ReadsScript result (script_of bytes) → IfOk result KeepsLimits
+read-keeps (Ok script) bytes (reading, read, is) = keeps-limits reading script (script-serves bytes reading read) is
+read-keeps (Err e) bytes h = tt

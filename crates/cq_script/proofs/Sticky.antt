@@ -1,5 +1,5 @@
 -- The first error stays.
-use Rattle.std.proofs.Common.{◌≡◌, ℕ, ◌+◌, ◌<◌, List, [], ◌∷◌, refl, ap, ◌∙◌, Result, Ok, Err, Bor, length, drop, map, get_or, add-one, drop-cons}
+use Rattle.std.proofs.Common.{◌≡◌, ℕ, ◌+◌, ◌<◌, List, [], ◌∷◌, refl, ap, ◌∙◌, Result, Err, Bor, length, drop, map, get_or, add-one, drop-cons}
 use Rattle.cq_script.specs.declared.script.StepWord.{StepWord}
 use Rattle.cq_script.specs.declared.script.ScriptError.{ScriptError}
 use Rattle.cq_script.specs.declared.script.ScriptError.TheVariants as script_error

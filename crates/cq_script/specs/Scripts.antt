@@ -47,9 +47,10 @@ IsStep clients (Client c) = c < clients
 IsStep clients (Turn c) = c < clients
 IsStep clients Write = Unit {0}
 
--- the numbers are in their ranges, each client has its stream, and requests and steps are few and can be served
+-- the numbers are in their ranges, there is one client, it has its stream, and requests and steps are few and can be served
 pub record KeepsLimits (script : Script) : Type 0 where
   pub in_range : IsInRange script.config.clients script.config.segment script.config.threshold script.config.limit
+  pub one_client : script.config.clients ≡ 1
   pub one_each : length script.streams ≡ script.config.clients
   pub streams_are : AllByRecursion IsStream script.streams
   pub few_steps : length script.steps ≤ 10000

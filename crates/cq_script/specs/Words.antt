@@ -1,10 +1,10 @@
 -- The lines of a script, the words of a line, and the words that carry a value.
-use Rattle.std.specs.Prelude.{◌≡◌, ℕ, ◌-◌, ◌+◌, ◌<◌, ◌≤◌, Bool, true, false, not, ◌==◌, ◌&&◌, if◌then◌else◌, List, [], ◌∷◌, ◌++◌, length, take, slice_index, map, nat_le, Option, None, Some, codes}
+use Rattle.std.specs.Prelude.{◌≡◌, ℕ, ◌-◌, Bool, true, false, not, ◌==◌, ◌&&◌, if◌then◌else◌, List, [], ◌∷◌, length, take, slice_index, nat_le, Option, None, Some, codes}
 use Rattle.std.specs.List.{slice_split, list_all, count_by}
 use Rattle.std.specs.Str.{bytes_eq}
 use Rattle.cq_inbox.specs.Requests.{publishes}
 use Rattle.cq_inbox.specs.declared.request.Request.{Request}
-use Rattle.cq_inbox.specs.declared.request.Request.TheVariants.{Publish, Get}
+use Rattle.cq_inbox.specs.declared.request.Request.TheVariants.{Get}
 use Rattle.cq_script.specs.declared.script.StepWord.{StepWord}
 use Rattle.cq_script.specs.declared.script.StepWord.TheVariants as step
 

@@ -1,8 +1,11 @@
 // The whole script, line by line.
-ghost use Rattle.std.specs.Prelude.{◌≡◌, ◌≤◌, ◌+◌, ◌∷◌, [], map, length, take, IfOk};
+ghost use Rattle.std.specs.Prelude.{◌≡◌, ◌≤◌, ◌+◌, ◌∷◌, [], List, map, length, take, IfOk};
 ghost use Rattle.cq_script.specs.Words.{line_ends};
 ghost use Rattle.cq_script.specs.Grammar.{Reads, script_of, take_line, take_lines, nothing_read, AtLine};
 ghost use Rattle.cq_script.specs.Scripts.{ReadsScript, IsScript, KeepsLimits};
+ghost use Rattle.cq_script.specs.Spelling.{AreSpellable, spelling, ReadsBack};
+ghost use Rattle.cq_inbox.specs.declared.request.Request.{Request};
+ghost use Rattle.cq_script.specs.declared.script.StepWord.{StepWord};
 
 use crate::lines::{is_printable, is_spaced, line_ends, script_lines, words};
 use crate::reading::{LineError, Reading};
@@ -20,6 +23,13 @@ const MOST_BYTES: usize = 1_048_576;
 pub fn read_script(alloc: Global, bytes: &[u8]) -> Result<Script, ScriptError>
     ensures exact { ReadsScript result (script_of bytes.now) }
     ensures limits { IfOk result KeepsLimits }
+    ensures spelled { (requests : List Request) (steps : List StepWord) → AreSpellable requests steps → bytes.now ≡ spelling requests steps → ReadsBack result requests steps }
+{
+    script_from(alloc, bytes)
+}
+
+fn script_from(alloc: Global, bytes: &[u8]) -> Result<Script, ScriptError>
+    ensures { ReadsScript result (script_of bytes.now) }
 {
     let reading = read(alloc, bytes)?;
     match finished(alloc, reading) {

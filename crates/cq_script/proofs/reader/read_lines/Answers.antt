@@ -1,4 +1,4 @@
-use Rattle.std.proofs.Common.{◌≡◌, [], map, ℕ, ◌+◌, ◌<◌, List, drop, length, sym, ◌∙◌, Ok, Err, Bor, arith, Result, subst}
+use Rattle.std.proofs.Common.{[], map, ℕ, ◌+◌, ◌<◌, List, drop, length, sym, ◌∙◌, Ok, Err, Bor, arith, Result, subst}
 use Rattle.cq_script.specs.declared.script.ScriptError.{ScriptError}
 use Rattle.cq_script.specs.Grammar.{Reads}
 use Rattle.cq_script.proofs.Sticky.{take_lines-more, Reads-lines}

@@ -1,5 +1,9 @@
-use Rattle.cq_script.proofs.Limits.{script-serves, keeps-limits}
+use Rattle.cq_script.proofs.Limits.{read-keeps}
+use Rattle.cq_script.proofs.Spelled.{reads-back}
 use Rattle.cq_script.proofs.reader.read_script.Goals as goal
 
-pub returns-in-Ok-clause-limits : goal.returns-in-Ok-clause-limits
-returns-in-Ok-clause-limits c = keeps-limits _ _ (script-serves c.args.bytes.now _ c.in_ok-reading.ensures) c.in-Ok.ensures
+pub returns-clause-limits : goal.returns-clause-limits
+returns-clause-limits c = read-keeps c.script_from.result c.args.bytes.now c.script_from.ensures
+
+pub returns-clause-spelled : goal.returns-clause-spelled
+returns-clause-spelled c = λ requests steps spellable same. reads-back c.script_from.result c.args.bytes.now requests steps c.script_from.ensures spellable same

@@ -1,4 +1,4 @@
-use Rattle.std.proofs.Common.{◌≡◌, [], map, ℕ, ◌+◌, ◌<◌, List, drop, length, sym, ap, ◌∙◌, Ok, Err, Bor, arith, Result, subst}
+use Rattle.std.proofs.Common.{[], map, ℕ, ◌+◌, ◌<◌, List, drop, length, sym, ap, ◌∙◌, Ok, Err, Bor, arith, Result, subst}
 use Rattle.cq_script.specs.declared.script.StepWord.{StepWord}
 use Rattle.cq_script.specs.declared.script.Why.{Why}
 use Rattle.cq_script.specs.Grammar.{GivesSteps, take_steps}

@@ -1,0 +1,309 @@
+// The text of a session, one put a line.
+ghost use Rattle.std.specs.Prelude.{◌≡◌, ◌≤◌, ◌^◌, ◌++◌, [], IfOk, OnOk, reverse, length, if◌then◌else◌};
+ghost use Rattle.std.specs.Io.KnownBytes.{Appends};
+ghost use Rattle.cq_bytes.specs.Numbers.{contains};
+ghost use Rattle.cq_disk.specs.Call.{CausedOf};
+ghost use Rattle.cq_journal.specs.Legal.{Legal};
+ghost use Rattle.cq_print.specs.Text.{session_line, text_of, confirm_of, confirmed_lines, clients_end, client_end, is_delivery_to};
+ghost use Rattle.cq_print.specs.Bodies.{shown};
+ghost use Rattle.cq_print.specs.Lines.{answers, line_of, own_line, reply_lines, last_place, left_out, client_lines, clients_lines};
+
+use crate::bodies::{bodies_of, body_of};
+use crate::lines::{
+    acked_line, busy_line, confirmed_line, empty_line, ended_line, got_line, published_line,
+    session_line, unknown_line,
+};
+use cq_io::Sink;
+use cq_journal::{Entry, Event, Session};
+use std::alloc::{AllocError, Global};
+use std::collections::BTreeMap;
+
+/// Why a text wasn't put.
+#[derive(Clone, Copy, Debug, PartialEq, Eq)]
+pub enum PutError {
+    /// The sink failed.
+    Output,
+    /// Memory ran out.
+    Memory,
+}
+
+impl From<AllocError> for PutError {
+    ghost use Rattle.cq_print.specs.declared.session.PutError.TheVariants.{Memory};
+
+    ghost from_gives = { λ _ e. e ≡ Memory };
+
+    fn from(_: AllocError) -> Self {
+        PutError::Memory
+    }
+}
+
+/// Whether an event answers the client.
+fn answers(client: u32, event: &Event) -> bool
+    ensures { result ≡ answers client event.now }
+{
+    match event {
+        Event::Published { client: owner, .. }
+        | Event::Delivered { client: owner, .. }
+        | Event::Empty { client: owner, .. }
+        | Event::Busy { client: owner, .. }
+        | Event::Acked { client: owner, .. }
+        | Event::Unknown { client: owner, .. }
+        | Event::Ended { client: owner } => *owner == client,
+        _ => false,
+    }
+}
+
+/// The line of the reply that an event gives, and nothing where it gives none.
+fn line_of(
+    alloc: Global,
+    event: &Event,
+    bodies: &BTreeMap<u128, &[u8]>,
+) -> Result<Vec<u8>, AllocError>
+    ensures { IfOk result (λ line. line.items ≡ line_of (shown bodies.now) event.now) }
+{
+    match event {
+        Event::Published { client, number, .. } => published_line(alloc, *client, *number),
+        Event::Delivered {
+            client,
+            delivery,
+            queue,
+            id,
+        } => got_line(alloc, *client, *delivery, *queue, body_of(bodies, *id)),
+        Event::Empty { client, queue } => empty_line(alloc, *client, *queue),
+        Event::Busy { client, queue } => busy_line(alloc, *client, *queue),
+        Event::Acked { client, delivery } => acked_line(alloc, *client, *delivery),
+        Event::Unknown { client, delivery } => unknown_line(alloc, *client, *delivery),
+        Event::Ended { client } => ended_line(alloc, *client),
+        _ => Ok(Vec::new(alloc)),
+    }
+}
+
+/// Puts one line, or nothing where it has no byte.
+fn put_line<W: Sink>(sink: &mut W, line: &[u8]) -> Result<(), PutError>
+    ensures ok { OnOk result (Appends (W.taken sink.old) (W.taken sink.new) line.now) }
+    ensures cause { CausedOf PutError.Output (W.faults sink.old) (W.faults sink.new) result }
+{
+    if line.is_empty() {
+        return Ok(());
+    }
+    match sink.put(line) {
+        Ok(()) => Ok(()),
+        Err(_) => Err(PutError::Output),
+    }
+}
+
+/// Puts the line of the event at a place, where it answers the client and isn't left out.
+fn put_reply<W: Sink>(
+    alloc: Global,
+    client: u32,
+    is_left_out: bool,
+    event: &Event,
+    bodies: &BTreeMap<u128, &[u8]>,
+    sink: &mut W,
+) -> Result<(), PutError>
+    ensures ok { OnOk result (Appends (W.taken sink.old) (W.taken sink.new) (if is_left_out then [] else own_line (shown bodies.now) client event.now)) }
+    ensures cause { CausedOf PutError.Output (W.faults sink.old) (W.faults sink.new) result }
+{
+    if is_left_out || !answers(client, event) {
+        return Ok(());
+    }
+    let line = line_of(alloc, event, bodies)?;
+    put_line(sink, &line)
+}
+
+/// Puts the reply lines of a client, but for one place.
+fn put_replies<W: Sink>(
+    alloc: Global,
+    client: u32,
+    left_out: usize,
+    entries: &[Entry],
+    bodies: &BTreeMap<u128, &[u8]>,
+    sink: &mut W,
+) -> Result<(), PutError>
+    ensures ok { OnOk result (Appends (W.taken sink.old) (W.taken sink.new) (reply_lines (shown bodies.now) client left_out (reverse entries.now))) }
+    ensures cause { CausedOf PutError.Output (W.faults sink.old) (W.faults sink.new) result }
+{
+    for (place, entry) in entries.iter().enumerate() {
+        put_reply(alloc, client, place == left_out, &entry.event, bodies, sink)?;
+    }
+    Ok(())
+}
+
+/// The line of an event that confirms a message of the client, and nothing for another.
+fn confirm_of(alloc: Global, client: u32, event: &Event) -> Result<Vec<u8>, AllocError>
+    ensures { IfOk result (λ line. line.items ≡ confirm_of client event.now) }
+{
+    let Event::Confirmed {
+        client: owner,
+        number,
+        ..
+    } = event
+    else {
+        return Ok(Vec::new(alloc));
+    };
+    if *owner != client {
+        return Ok(Vec::new(alloc));
+    }
+    confirmed_line(alloc, client, *number)
+}
+
+/// Puts the line of an event that confirms a message of the client, and nothing for another.
+fn put_confirm<W: Sink>(
+    alloc: Global,
+    client: u32,
+    event: &Event,
+    sink: &mut W,
+) -> Result<(), PutError>
+    ensures ok { OnOk result (Appends (W.taken sink.old) (W.taken sink.new) (confirm_of client event.now)) }
+    ensures cause { CausedOf PutError.Output (W.faults sink.old) (W.faults sink.new) result }
+{
+    let line = confirm_of(alloc, client, event)?;
+    put_line(sink, &line)
+}
+
+/// Puts the confirms of a client.
+fn put_confirms<W: Sink>(
+    alloc: Global,
+    client: u32,
+    entries: &[Entry],
+    sink: &mut W,
+) -> Result<(), PutError>
+    ensures ok { OnOk result (Appends (W.taken sink.old) (W.taken sink.new) (confirmed_lines (reverse entries.now) client)) }
+    ensures cause { CausedOf PutError.Output (W.faults sink.old) (W.faults sink.new) result }
+{
+    for entry in entries {
+        put_confirm(alloc, client, &entry.event, sink)?;
+    }
+    Ok(())
+}
+
+/// Whether an event is a delivery to the client.
+fn is_delivery_to(client: u32, event: &Event) -> bool
+    ensures { result ≡ is_delivery_to client event.now }
+{
+    match event {
+        Event::Delivered { client: owner, .. } => *owner == client,
+        _ => false,
+    }
+}
+
+/// The place of the last delivery to the client, and the number of entries where there is none.
+fn last_place(client: u32, entries: &[Entry]) -> usize
+    ensures { result ≡ last_place (length entries.now) client (reverse entries.now) }
+{
+    let mut last = entries.len();
+    for (place, entry) in entries.iter().enumerate() {
+        if is_delivery_to(client, &entry.event) {
+            last = place;
+        }
+    }
+    last
+}
+
+/// The place that is left out: that of the last delivery to a client that was cut off, and none of another.
+fn left_out(client: u32, entries: &[Entry], cut: &[u32]) -> usize
+    ensures { result ≡ left_out (reverse entries.now) cut.now client }
+{
+    if cut.contains(&client) {
+        return last_place(client, entries);
+    }
+    entries.len()
+}
+
+/// Puts the lines of a client.
+fn put_client<W: Sink>(
+    alloc: Global,
+    client: u32,
+    entries: &[Entry],
+    cut: &[u32],
+    bodies: &BTreeMap<u128, &[u8]>,
+    sink: &mut W,
+) -> Result<(), PutError>
+    ensures ok { OnOk result (Appends (W.taken sink.old) (W.taken sink.new) (client_lines (shown bodies.now) (reverse entries.now) cut.now client)) }
+    ensures cause { CausedOf PutError.Output (W.faults sink.old) (W.faults sink.new) result }
+{
+    let place = left_out(client, entries, cut);
+    put_replies(alloc, client, place, entries, bodies, sink)?;
+    put_confirms(alloc, client, entries, sink)
+}
+
+/// One more than the number of the client of an event, where it has one.
+fn client_end(event: &Event) -> u64
+    ensures same { result ≡ client_end event.now }
+    ensures small { result ≤ 2 ^ 32 }
+{
+    match event {
+        Event::Published { client, .. }
+        | Event::Delivered { client, .. }
+        | Event::Empty { client, .. }
+        | Event::Busy { client, .. }
+        | Event::Acked { client, .. }
+        | Event::Unknown { client, .. }
+        | Event::Ended { client }
+        | Event::Confirmed { client, .. } => u64::from(*client) + 1,
+        _ => 0,
+    }
+}
+
+/// The number that every client of the entries is below.
+fn clients_end(entries: &[Entry]) -> u64
+    ensures same { result ≡ clients_end (reverse entries.now) }
+    ensures small { result ≤ 2 ^ 32 }
+{
+    let mut end = 0;
+    for entry in entries {
+        end = client_end(&entry.event).max(end);
+    }
+    end
+}
+
+/// Puts the lines of all clients, rising.
+fn put_clients<W: Sink>(
+    alloc: Global,
+    entries: &[Entry],
+    cut: &[u32],
+    bodies: &BTreeMap<u128, &[u8]>,
+    sink: &mut W,
+) -> Result<(), PutError>
+    ensures ok { OnOk result (Appends (W.taken sink.old) (W.taken sink.new) (clients_lines (shown bodies.now) (reverse entries.now) cut.now (clients_end (reverse entries.now)))) }
+    ensures cause { CausedOf PutError.Output (W.faults sink.old) (W.faults sink.new) result }
+{
+    for client in 0..clients_end(entries) {
+        put_client(alloc, client as u32, entries, cut, bodies, sink)?;
+    }
+    Ok(())
+}
+
+/// Puts the text of a session, with the bodies that are found by their ids.
+fn put_text<W: Sink>(
+    alloc: Global,
+    number: u64,
+    entries: &[Entry],
+    cut: &[u32],
+    bodies: &BTreeMap<u128, &[u8]>,
+    sink: &mut W,
+) -> Result<(), PutError>
+    ensures ok { OnOk result (Appends (W.taken sink.old) (W.taken sink.new) (session_line number ++ clients_lines (shown bodies.now) (reverse entries.now) cut.now (clients_end (reverse entries.now)))) }
+    ensures cause { CausedOf PutError.Output (W.faults sink.old) (W.faults sink.new) result }
+{
+    let head = session_line(alloc, number)?;
+    put_line(sink, &head)?;
+    put_clients(alloc, entries, cut, bodies, sink)
+}
+
+/// Puts the text of the session with this number: `session K`; then for each client, rising, the lines of its replies
+/// in order, without the last delivery of a client that was cut off, and its confirms in order. Each line is one put.
+/// `Output` comes only where the sink failed. A journal that isn't legal may be shown with other bodies.
+pub fn put_session<W: Sink>(
+    alloc: Global,
+    number: u64,
+    session: &Session,
+    sink: &mut W,
+) -> Result<(), PutError>
+    ensures ok { Legal session.now.journal.entries → OnOk result (Appends (W.taken sink.old) (W.taken sink.new) (text_of number session.now.journal.entries session.now.cut.items)) }
+    ensures cause { CausedOf PutError.Output (W.faults sink.old) (W.faults sink.new) result }
+{
+    let entries = session.journal.entries();
+    let bodies = bodies_of(alloc, entries)?;
+    put_text(alloc, number, entries, &session.cut, &bodies, sink)
+}
