@@ -3,3 +3,4 @@ pub mod Steps
 pub mod Found
 pub mod Places
 pub mod Batches
+pub mod Counts

@@ -7,6 +7,7 @@ use Rattle.cq_node.specs.Core.{EndBy}
 -- The records of so many messages, and where they stand: each ends where the records end, at the latest.
 pub record IsBatch (base count : ℕ) (batch : Batch) : Type 0 where
   pub records : length batch.records ≤ count * 1048581
+  pub some : count * 5 ≤ length batch.records
   pub entries : length batch.entries.items ≡ count * 32
   pub spots : length batch.spots.items ≡ count
   pub places : EndBy (base + length batch.records) batch.spots.items

@@ -18,10 +18,14 @@ pub record State : Type 0 where
   pub reserved : ℕ
   pub top : ℕ
 
--- each of these records ends at or before this place
+-- a record of a body that isn't too long, which ends at or before this place
+abbrev pub EndsBy : ℕ → Spot → Type 0
+EndsBy top s = (s.place + s.len + 5 ≤ top) × (s.len ≤ 1048576)
+
+-- each of these records does
 abbrev pub EndBy : ℕ → List Spot → Type 0
 EndBy top [] = Unit {0}
-EndBy top (s ∷ spots) = (s.place + s.len + 5 ≤ top) × EndBy top spots
+EndBy top (s ∷ spots) = EndsBy top s × EndBy top spots
 
 -- 1 where the event confirms a message
 abbrev pub confirms : Event → ℕ

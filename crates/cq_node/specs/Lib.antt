@@ -4,3 +4,5 @@ pub mod Found
 pub mod Waiting
 pub mod Batch
 pub mod Confirming
+pub mod Files
+pub mod Turned

@@ -69,7 +69,7 @@ impl Model for Core {
 
 impl Core {
     ghost use Rattle.cq_node.specs.Found.{Finds, HoldsFirst, IsFirstBody};
-    ghost use Rattle.cq_node.specs.Core.{undecided, confirmed, Confirms, IsQuiet, EndBy};
+    ghost use Rattle.cq_node.specs.Core.{undecided, confirmed, Confirms, IsQuiet, EndsBy, EndBy};
 
     /// A core whose folder held no message. The opening is its one entry, with this stamp.
     pub fn open(alloc: Global, stamp: u64) -> Result<Core, AllocError>
@@ -276,7 +276,7 @@ impl Core {
     fn confirm(&mut self, stamp: u64, spot: Spot)
         requires some { 0 < undecided self.old.entries }
         requires reserved { 0 < self.old.reserved }
-        requires place { spot.place + spot.len + 5 ≤ self.old.top }
+        requires place { EndsBy self.old.top spot }
         requires later { newest self.old.entries ≤ stamp }
         ensures confirms { Confirms stamp self.old.entries self.new.entries }
         ensures left { undecided self.old.entries ≡ undecided self.new.entries + 1 }

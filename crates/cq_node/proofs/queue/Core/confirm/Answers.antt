@@ -9,7 +9,7 @@ use Rattle.std.proofs.Common.{suc, inl, inr}
 use Rattle.std.proofs.lemmas.Bool.{cases_lt}
 use Rattle.std.proofs.lemmas.List.{length-drop, length-append}
 use Rattle.cq_node.specs.declared.queue.Spot.{Spot}
-use Rattle.cq_node.specs.Core.{EndBy}
+use Rattle.cq_node.specs.Core.{EndsBy, EndBy}
 use Rattle.cq_node.proofs.Places.{end_by-push}
 use Rattle.cq_node.specs.Core.{undecided, HasRoom}
 use Rattle.cq_journal.specs.declared.event.Event.TheVariants.{Confirmed}
@@ -44,7 +44,7 @@ invariant_of-self c =
       },
       elim (cases_lt c.self.inside.confirmed c.self.inside.delivered) [
         | inl handed ↦ subst (λ (spots : List Spot). EndBy c.self.inside.top spots) (sym (c.keep_place.ensures.handed handed)) c.self.invariant.2
-        | inr waits ↦ subst (λ (spots : List Spot). EndBy c.self.inside.top spots) (sym (c.keep_place.ensures.waits waits)) (end_by-push c.self.inside.top c.self.inside.places.items c.args.spot c.self.invariant.2 (subst (λ (v : State). c.args.spot.place + c.args.spot.len + 5 ≤ v.top) (sym c.self.view_is) c.requires.place))
+        | inr waits ↦ subst (λ (spots : List Spot). EndBy c.self.inside.top spots) (sym (c.keep_place.ensures.waits waits)) (end_by-push c.self.inside.top c.self.inside.places.items c.args.spot c.self.invariant.2 (subst (λ (v : State). EndsBy v.top c.args.spot) (sym c.self.view_is) c.requires.place))
       ],
     )
 

@@ -6,6 +6,7 @@ use Rattle.std.specs.VecDeque.{deque_len}
 use Rattle.cq_node.specs.declared.queue.Spot.{Spot}
 use Rattle.cq_node.proofs.Places.{end_by-at}
 use Rattle.cq_node.specs.Core.{State}
+use Rattle.cq_node.specs.Core.{EndsBy}
 use Rattle.cq_node.specs.Found.{HoldsFirst}
 use Rattle.cq_node.proofs.Found.{length-waiting, none_waits}
 use Rattle.cq_node.proofs.queue.Core.next.Goals as goal
@@ -18,8 +19,8 @@ returns c =
     let h = c.self.invariant.0 in
     let spot : Spot = c.index.result.now in
     let some : 0 < length c.self.inside.places.items = omega (arith, eqb-false (deque_len c.self.inside.places) 0 (sym c.is_empty.ensures ∙ c.if-is_empty.false)) in
-    let ends : spot.place + spot.len + 5 ≤ c.self.inside.top = subst (λ (s : Spot). s.place + s.len + 5 ≤ c.self.inside.top) (sym c.index.ensures) (end_by-at c.self.inside.top c.self.inside.places.items 0 spot c.self.invariant.2 some) in
-    subst (λ (v : State). (length (unacked v.entries 0) < 64) × (0 < length (waiting v.entries 0)) × (spot.place + spot.len + 5 ≤ v.top)) c.self.view_is
+    let ends : EndsBy c.self.inside.top spot = subst (λ (s : Spot). EndsBy c.self.inside.top s) (sym c.index.ensures) (end_by-at c.self.inside.top c.self.inside.places.items 0 spot c.self.invariant.2 some) in
+    subst (λ (v : State). (length (unacked v.entries 0) < 64) × (0 < length (waiting v.entries 0)) × EndsBy v.top spot) c.self.view_is
     (omega (arith, h.open_is), omega (arith, length-waiting h, c.from.ensures), ends)
 
 pub returns-then-is_empty : goal.returns-then-is_empty
