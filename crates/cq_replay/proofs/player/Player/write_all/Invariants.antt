@@ -1,0 +1,13 @@
+use Rattle.cq_replay.specs.Running.{GoesOn}
+use Rattle.cq_node.specs.Core.{undecided}
+use Rattle.cq_replay.proofs.player.Player.write_all.Given as goal
+
+abbrev pub invariant-loop : goal.invariant-loop
+invariant-loop g l =
+    let d = g.D.Disk in
+    let start = l.fn.self.node.store.disk in
+    let now = l.self.node.store.disk in
+    GoesOn l.self.node.store.halted (d.moment start) (d.moment now) (d.faults start) (d.faults now) (d.struck start) (d.struck now) (d.fuse start) (d.fuse now) (d.planned start) (d.planned now)
+
+abbrev pub decreases-loop : goal.decreases-loop
+decreases-loop g l = undecided l.self.node.core.entries

@@ -1,0 +1,5 @@
+pub mod Words
+pub mod Input
+pub mod Played
+pub mod Outcomes
+pub mod Running

@@ -1,0 +1,42 @@
+-- What serving a script hands back.
+use Rattle.std.specs.Prelude.{◌≡◌, ℕ, ◌≤◌, true, List, [], ◌∷◌, Option}
+use Rattle.std.specs.List.{list_all}
+use Rattle.std.specs.Io.KnownBytes.{Appends}
+use Rattle.cq_disk.specs.Rose.{Rose}
+use Rattle.cq_disk.specs.Call.{BeforeFuse}
+use Rattle.cq_inbox.specs.declared.request.Request.{Request}
+use Rattle.cq_inbox.specs.Requests.{publishes}
+use Rattle.cq_journal.specs.declared.session.Session.{Session}
+use Rattle.cq_journal.specs.Legal.{Legal}
+use Rattle.cq_node.specs.declared.outcome.NodeError.{NodeError}
+use Rattle.cq_node.specs.declared.outcome.NodeError.TheVariants.{Fault}
+use Rattle.cq_node.specs.Waiting.{is_servable}
+use Rattle.cq_print.specs.Text.{text_of}
+use Rattle.cq_replay.specs.declared.playing.Ending.{Ending}
+use Rattle.cq_replay.specs.declared.playing.Ending.TheVariants.{Served, Failed, Output, Memory}
+
+-- the journal of each session is legal
+abbrev pub AreLegal : List Session → Type 0
+AreLegal [] = Unit {0}
+AreLegal (s ∷ sessions) = Legal s.journal.entries × AreLegal sessions
+
+-- there is a first session, and its text was taken
+abbrev pub FirstText : Option (List ℕ) → Option (List ℕ) → List Session → Type 0
+FirstText old new [] = ⊥
+FirstText old new (s ∷ sessions) = Appends old new (text_of 0 s.journal.entries s.cut.items)
+
+-- one client's requests, publishes to queue 0 and gets of it, of which few are publishes
+abbrev pub IsRight : List (List Request) → Type 0
+IsRight [] = ⊥
+IsRight (requests ∷ []) = (list_all is_servable requests ≡ true) × (publishes requests ≤ 4096)
+IsRight (requests ∷ more ∷ streams) = ⊥
+
+-- a fact of the error of a step that failed
+abbrev pub IfFailed : Ending → (NodeError → Type 0) → Type 0
+IfFailed (Failed e) P = P e
+IfFailed _ P = Unit {0}
+
+-- A step failed only by a fault of the disk, whose count of faults rose then; and so did that of the faults before the fuse, where the fuse wasn't reached.
+abbrev pub Ended : Ending → ℕ → ℕ → Option ℕ → ℕ → ℕ → ℕ → Type 0
+Ended (Failed e) faults faults' fuse moment struck struck' = (e ≡ Fault) × Rose faults faults' × (BeforeFuse fuse moment → Rose struck struck')
+Ended _ faults faults' fuse moment struck struck' = Unit {0}

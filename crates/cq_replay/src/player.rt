@@ -1,0 +1,186 @@
+// One client that is served by a node, step by step.
+ghost use Rattle.std.specs.Prelude.{◌≡◌, ◌<◌, ◌≤◌, ◌+◌, ◌++◌, true, false, OnOk, OnErr, IsErrOf, reverse, vec_len};
+ghost use Rattle.std.specs.List.{list_all};
+ghost use Rattle.cq_disk.specs.Call.{CausedOf, StruckByOf, KeepsPlan};
+ghost use Rattle.cq_inbox.specs.Requests.{publishes};
+ghost use Rattle.cq_journal.specs.Asks.{asks};
+ghost use Rattle.cq_node.specs.declared.outcome.NodeError.TheVariants.{Fault as node_fault};
+ghost use Rattle.cq_node.specs.Turned.{Wrote};
+ghost use Rattle.cq_node.specs.Waiting.{is_servable};
+
+use cq_disk::Disk;
+use cq_inbox::Request;
+use cq_journal::After;
+use cq_node::{Node, NodeError, Step, Turn};
+use cq_script::StepWord;
+use std::collections::VecDeque;
+
+/// A node, what its one client hasn't handed in yet, in order, and the state after each word that was done.
+#[derive(Drop)]
+pub struct Player<D: Disk> {
+    pub node: Node<D>,
+    pub rest: VecDeque<Request>,
+    pub after: Vec<After>,
+
+    ghost servable: { list_all is_servable rest.items ≡ true },
+    ghost few: { publishes (asks node.core.entries 0) + publishes node.waiting.requests + publishes rest.items ≤ 4096 },
+    ghost one_client: { node.config.clients ≡ 1 },
+}
+
+impl<D: Disk> Player<D> {
+    /// Serves the words of a schedule, and then all that is left.
+    pub fn serve(&mut self, words: &[StepWord]) -> Result<(), NodeError>
+        requires open { self.old.node.store.halted ≡ false }
+        ensures goes_on { OnOk result (self.new.node.store.halted ≡ false) }
+        ensures no_stop { IsErrOf result NodeError.Stopped → ⊥ }
+        ensures later { D.moment self.old.node.store.disk ≤ D.moment self.new.node.store.disk }
+        ensures cause { CausedOf node_fault (D.faults self.old.node.store.disk) (D.faults self.new.node.store.disk) result }
+        ensures strike { StruckByOf node_fault (D.fuse self.old.node.store.disk) (D.moment self.new.node.store.disk) (D.struck self.old.node.store.disk) (D.struck self.new.node.store.disk) result }
+        ensures plan { KeepsPlan (D.fuse self.old.node.store.disk) (D.planned self.old.node.store.disk) (D.fuse self.new.node.store.disk) (D.planned self.new.node.store.disk) }
+    {
+        let total = self.rest.len();
+        for word in words {
+            self.step(*word)?;
+        }
+        self.finish(total)
+    }
+
+    /// Does one word of the schedule, and records the state after it.
+    fn step(&mut self, word: StepWord) -> Result<(), NodeError>
+        requires open { self.old.node.store.halted ≡ false }
+        ensures goes_on { OnOk result (self.new.node.store.halted ≡ false) }
+        ensures no_stop { IsErrOf result NodeError.Stopped → ⊥ }
+        ensures later { D.moment self.old.node.store.disk ≤ D.moment self.new.node.store.disk }
+        ensures cause { CausedOf node_fault (D.faults self.old.node.store.disk) (D.faults self.new.node.store.disk) result }
+        ensures strike { StruckByOf node_fault (D.fuse self.old.node.store.disk) (D.moment self.new.node.store.disk) (D.struck self.old.node.store.disk) (D.struck self.new.node.store.disk) result }
+        ensures plan { KeepsPlan (D.fuse self.old.node.store.disk) (D.planned self.old.node.store.disk) (D.fuse self.new.node.store.disk) (D.planned self.new.node.store.disk) }
+    {
+        match word {
+            StepWord::Client(_) => self.hand_in(),
+            StepWord::Turn(_) => {
+                let _ = self.turn()?;
+            }
+            StepWord::Write => {
+                let _ = self.write()?;
+            }
+        }
+        let after = After {
+            entries: self.node.journal().entries().len() as u64,
+            moment: self.node.moment(),
+        };
+        match self.after.push(after) {
+            Ok(()) => Ok(()),
+            Err(_) => Err(NodeError::Memory),
+        }
+    }
+
+    /// Hands in the next request, where there is one and the lane isn't full.
+    fn hand_in(&mut self)
+        ensures store { self.new.node.store ≡ self.old.node.store }
+        ensures core { self.new.node.core ≡ self.old.node.core }
+    {
+        let Some(request) = self.rest.pop_front() else {
+            return;
+        };
+        if let Err(back) = self.node.put(0, request) {
+            self.rest.push_front_reserved(back);
+        }
+    }
+
+    /// A turn of the client.
+    fn turn(&mut self) -> Result<Turn, NodeError>
+        requires open { self.old.node.store.halted ≡ false }
+        ensures goes_on { OnOk result (self.new.node.store.halted ≡ false) }
+        ensures no_stop { IsErrOf result NodeError.Stopped → ⊥ }
+        ensures later { D.moment self.old.node.store.disk ≤ D.moment self.new.node.store.disk }
+        ensures cause { CausedOf node_fault (D.faults self.old.node.store.disk) (D.faults self.new.node.store.disk) result }
+        ensures strike { StruckByOf node_fault (D.fuse self.old.node.store.disk) (D.moment self.new.node.store.disk) (D.struck self.old.node.store.disk) (D.struck self.new.node.store.disk) result }
+        ensures plan { KeepsPlan (D.fuse self.old.node.store.disk) (D.planned self.old.node.store.disk) (D.fuse self.new.node.store.disk) (D.planned self.new.node.store.disk) }
+    {
+        self.node.turn(0)
+    }
+
+    /// A step of the writer.
+    fn write(&mut self) -> Result<Step, NodeError>
+        requires open { self.old.node.store.halted ≡ false }
+        ensures wrote { Wrote result self.old.node.core.entries self.new.node.core.entries }
+        ensures goes_on { OnOk result (self.new.node.store.halted ≡ false) }
+        ensures no_stop { IsErrOf result NodeError.Stopped → ⊥ }
+        ensures later { D.moment self.old.node.store.disk ≤ D.moment self.new.node.store.disk }
+        ensures cause { CausedOf node_fault (D.faults self.old.node.store.disk) (D.faults self.new.node.store.disk) result }
+        ensures strike { StruckByOf node_fault (D.fuse self.old.node.store.disk) (D.moment self.new.node.store.disk) (D.struck self.old.node.store.disk) (D.struck self.new.node.store.disk) result }
+        ensures plan { KeepsPlan (D.fuse self.old.node.store.disk) (D.planned self.old.node.store.disk) (D.fuse self.new.node.store.disk) (D.planned self.new.node.store.disk) }
+    {
+        self.node.write_step()
+    }
+
+    /// Serves all that is left of so many requests, and writes until nothing is left to write.
+    fn finish(&mut self, total: usize) -> Result<(), NodeError>
+        requires open { self.old.node.store.halted ≡ false }
+        ensures goes_on { OnOk result (self.new.node.store.halted ≡ false) }
+        ensures no_stop { IsErrOf result NodeError.Stopped → ⊥ }
+        ensures later { D.moment self.old.node.store.disk ≤ D.moment self.new.node.store.disk }
+        ensures cause { CausedOf node_fault (D.faults self.old.node.store.disk) (D.faults self.new.node.store.disk) result }
+        ensures strike { StruckByOf node_fault (D.fuse self.old.node.store.disk) (D.moment self.new.node.store.disk) (D.struck self.old.node.store.disk) (D.struck self.new.node.store.disk) result }
+        ensures plan { KeepsPlan (D.fuse self.old.node.store.disk) (D.planned self.old.node.store.disk) (D.fuse self.new.node.store.disk) (D.planned self.new.node.store.disk) }
+    {
+        let answered = self.node.replies(0).len();
+        for _round in 0..total.saturating_sub(answered) {
+            self.round()?;
+        }
+        self.write_all()
+    }
+
+    /// Answers one request that is left, and makes one write step.
+    fn round(&mut self) -> Result<(), NodeError>
+        requires open { self.old.node.store.halted ≡ false }
+        ensures goes_on { OnOk result (self.new.node.store.halted ≡ false) }
+        ensures no_stop { IsErrOf result NodeError.Stopped → ⊥ }
+        ensures later { D.moment self.old.node.store.disk ≤ D.moment self.new.node.store.disk }
+        ensures cause { CausedOf node_fault (D.faults self.old.node.store.disk) (D.faults self.new.node.store.disk) result }
+        ensures strike { StruckByOf node_fault (D.fuse self.old.node.store.disk) (D.moment self.new.node.store.disk) (D.struck self.old.node.store.disk) (D.struck self.new.node.store.disk) result }
+        ensures plan { KeepsPlan (D.fuse self.old.node.store.disk) (D.planned self.old.node.store.disk) (D.fuse self.new.node.store.disk) (D.planned self.new.node.store.disk) }
+    {
+        self.answer_one()?;
+        let _ = self.write()?;
+        Ok(())
+    }
+
+    /// Answers one request that is left.
+    fn answer_one(&mut self) -> Result<(), NodeError>
+        requires open { self.old.node.store.halted ≡ false }
+        ensures goes_on { OnOk result (self.new.node.store.halted ≡ false) }
+        ensures no_stop { IsErrOf result NodeError.Stopped → ⊥ }
+        ensures later { D.moment self.old.node.store.disk ≤ D.moment self.new.node.store.disk }
+        ensures cause { CausedOf node_fault (D.faults self.old.node.store.disk) (D.faults self.new.node.store.disk) result }
+        ensures strike { StruckByOf node_fault (D.fuse self.old.node.store.disk) (D.moment self.new.node.store.disk) (D.struck self.old.node.store.disk) (D.struck self.new.node.store.disk) result }
+        ensures plan { KeepsPlan (D.fuse self.old.node.store.disk) (D.planned self.old.node.store.disk) (D.fuse self.new.node.store.disk) (D.planned self.new.node.store.disk) }
+    {
+        match self.turn()? {
+            Turn::Moved => Ok(()),
+            Turn::Done => {
+                self.hand_in();
+                let _ = self.turn()?;
+                Ok(())
+            }
+        }
+    }
+
+    /// Makes write steps until nothing is left to write.
+    fn write_all(&mut self) -> Result<(), NodeError>
+        requires open { self.old.node.store.halted ≡ false }
+        ensures goes_on { OnOk result (self.new.node.store.halted ≡ false) }
+        ensures no_stop { IsErrOf result NodeError.Stopped → ⊥ }
+        ensures later { D.moment self.old.node.store.disk ≤ D.moment self.new.node.store.disk }
+        ensures cause { CausedOf node_fault (D.faults self.old.node.store.disk) (D.faults self.new.node.store.disk) result }
+        ensures strike { StruckByOf node_fault (D.fuse self.old.node.store.disk) (D.moment self.new.node.store.disk) (D.struck self.old.node.store.disk) (D.struck self.new.node.store.disk) result }
+        ensures plan { KeepsPlan (D.fuse self.old.node.store.disk) (D.planned self.old.node.store.disk) (D.fuse self.new.node.store.disk) (D.planned self.new.node.store.disk) }
+    {
+        loop {
+            match self.write()? {
+                Step::Did => {}
+                Step::Idle => return Ok(()),
+            }
+        }
+    }
+}
