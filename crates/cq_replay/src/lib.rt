@@ -11,3 +11,6 @@ pub use player::Player;
 pub use playing::{Ending, Played, play};
 pub use top::offline;
 
+
+#[cfg(test)]
+mod tests;
