@@ -3,6 +3,7 @@ ghost use Rattle.std.specs.Prelude.{◌≡◌, ◌<◌, ◌≤◌, [], take, dro
 ghost use Rattle.std.specs.Io.{ReadsAtMost};
 ghost use Rattle.std.specs.Io.KnownBytes.{ReadConsumes};
 ghost use Rattle.cq_disk.specs.Call.{Caused};
+ghost use Rattle.cq_io.specs.Streams.{PutAppends};
 
 use crate::{InputFault, OutputFault, Sink, Source};
 use std::alloc::Global;
@@ -90,9 +91,12 @@ pub struct MemSink {
 }
 
 impl MemSink {
+    ghost use Rattle.cq_io.specs.Planned.{IsNewSink, refused_of};
+
     /// A sink that has taken nothing. The puts whose numbers, from 0, stand in `fails` fail.
     pub fn new(alloc: Global, fails: Vec<u64>) -> MemSink
-        ensures { ⟦<MemSink as Sink>⟧.taken result ≡ Some [] }
+        ensures taken { ⟦<MemSink as Sink>⟧.taken result ≡ Some [] }
+        ensures plan { IsNewSink fails.items result }
     {
         MemSink {
             taken: Vec::new(alloc),
@@ -111,17 +115,25 @@ impl MemSink {
     }
 
     /// How many puts failed since they were refused memory. It never falls, and stays at its last value.
-    pub fn refused(&self) -> u64 {
+    pub fn refused(&self) -> u64
+        ensures { result ≡ refused_of self.now }
+    {
         self.refused
     }
 }
 
 impl Sink for MemSink {
+    ghost use Rattle.cq_io.specs.Planned.{SinkFails};
+
     ghost taken = { λ s. Some s.taken.items };
 
     ghost faults = { λ s. s.faults };
 
-    fn put(&mut self, bytes: &[u8]) -> Result<(), OutputFault> {
+    fn put(&mut self, bytes: &[u8]) -> Result<(), OutputFault>
+        ensures bytes { PutAppends (Some self.old.taken.items) (Some self.new.taken.items) result bytes.now }
+        ensures cause { Caused self.old.faults self.new.faults result }
+        ensures planned { SinkFails self.old self.new result }
+    {
         let call = self.calls;
         self.calls = self.calls.saturating_add(1);
         if self.fails.contains(&call) {

@@ -1,5 +1,5 @@
 // Standard input and standard output, which tell no content.
-ghost use Rattle.std.specs.Prelude.{None};
+ghost use Rattle.std.specs.Prelude.{◌≡◌, None};
 
 use crate::{InputFault, OutputFault, Sink, Source};
 use std::io::Read;
@@ -13,7 +13,9 @@ pub struct StdSource<R: Input> {
 
 impl<R: Input> StdSource<R> {
     /// The standard input of this runtime.
-    pub fn new(rt: &R) -> StdSource<R> {
+    pub fn new(rt: &R) -> StdSource<R>
+        ensures { result.faults ≡ 0 }
+    {
         StdSource {
             reader: rt.reader(),
             faults: 0,
@@ -50,7 +52,9 @@ pub struct StdSink<'a, P: Print> {
 
 impl<'a, P: Print> StdSink<'a, P> {
     /// The standard output of this runtime.
-    pub fn new(rt: &'a P) -> StdSink<'a, P> {
+    pub fn new(rt: &'a P) -> StdSink<'a, P>
+        ensures { result.faults ≡ 0 }
+    {
         StdSink { to: rt, faults: 0 }
     }
 }
