@@ -1,0 +1,4 @@
+pub mod Steps
+pub mod Comings
+pub mod Ends
+pub mod Maps
