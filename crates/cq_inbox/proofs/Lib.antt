@@ -1,2 +1,4 @@
 pub mod Members
 pub mod OpenWords
+pub mod Places
+pub mod Shown

@@ -4,7 +4,7 @@ use lib.ListN.{length-map}
 use Rattle.cq_inbox.specs.Inbox.{Appends}
 use Rattle.cq_lane.specs.Ends.{lane_id, take_end_id, taken, take_looks}
 use Rattle.cq_lane.specs.Lanes.{OneEnd, IsLook}
-use Rattle.cq_lane.proofs.Maps.{same_at, set_shows, set_keeps}
+use Rattle.cq_inbox.proofs.Shown.{same_at, set_shows, set_keeps}
 use Rattle.cq_lane.proofs.lanes.LaneSeats.take.Goals as goal
 
 -- the client has an end

@@ -3,8 +3,8 @@ use lib.ListN.{length-map}
 use Rattle.cq_lane.specs.Ends.{taken, take_end_id}
 use Rattle.cq_lane.specs.Lanes.{OneSender, OneEnd, Room, own_id, sent_by}
 use Rattle.cq_inbox.specs.declared.request.Request.{Request}
-use Rattle.cq_lane.proofs.Ends.{there}
-use Rattle.cq_lane.proofs.Maps.{map_at}
+use Rattle.cq_inbox.proofs.Places.{there}
+use Rattle.cq_inbox.proofs.Shown.{map_at}
 use Rattle.cq_lane.proofs.lanes.end.close.Goals as goal
 
 pub returns-in-Ok : goal.returns-in-Ok

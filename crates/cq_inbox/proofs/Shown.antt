@@ -1,6 +1,8 @@
 -- A fact that each element shows, after one element of a list is replaced.
-use Rattle.std.proofs.Common.{◌≡◌, ℕ, zero, suc, ◌<◌, ◌≢◌, List, [], ◌∷◌, map, length, get_or, set, sym, ap, ◌∙◌, subst, get_or-set_other, get_or-set_same}
-use Rattle.std.proofs.lemmas.List.{get_or-map, map-set}
+use Rattle.std.proofs.Common.{◌≡◌, ℕ, zero, suc, ◌<◌, ◌≢◌, List, [], ◌∷◌, map, length, get_or, set, replicate, slice_get, Some, refl, sym, ap, ◌∙◌, subst, get_or-set_other, get_or-set_same}
+use Rattle.std.proofs.lemmas.List.{get_or-map, map-set, get_or_default}
+use Rattle.std.proofs.lemmas.Option.{slice_get-get_or}
+use Rattle.atomic_table.proofs.Lists.{at_index}
 use mathlib.Core.Option.{some, some-injective, some-ne-none}
 use lib.ListN.{get_elem?, length-map}
 
@@ -26,3 +28,17 @@ module _ {X Y : Type 0} (f : X → Y) where
 
   pub set_keeps : (xs : List X) (i k : ℕ) (new : X) (d : Y) → k ≢ i → get_or (map f (set xs i new)) k d ≡ get_or (map f xs) k d
   set_keeps xs i k new d ne = ap (λ (l : List Y). get_or l k d) (map-set f xs i new) ∙ get_or-set_other (map f xs) i k (f new) d ne
+
+-- elements that stand at their own numbers are found by them
+pub in_place : {X Y : Type 0} (number : X → ℕ) (f : X → Y) (xs : List X) (ys : List Y) → map f xs ≡ ys → ((c : ℕ) (x : X) → get_elem? xs c ≡ some x → number x ≡ c) → (k : ℕ) (d : X) → k < length xs → slice_get ys (number (get_or xs k d)) ≡ Some (f (get_or xs k d))
+in_place {X} {Y} number f xs ys is places k d near =
+    let x : X = get_or xs k d in
+    let at : number x ≡ k = places k x (at_index xs k x near (get_or_default xs k d x near)) in
+    let near' : k < length (map f xs) = subst (λ (n : ℕ). k < n) (sym (length-map xs f)) near in
+    ap (slice_get ys) at ∙ (ap (λ (l : List Y). slice_get l k) (sym is) ∙ (slice_get-get_or (map f xs) k (f x) near' ∙ ap Some (get_or-map f xs k d (f x) near)))
+
+-- each of so many empty lists is empty
+pub none_each : {X : Type 0} (n c : ℕ) → ◌≡◌ {A = List X} (get_or (replicate n []) c []) []
+none_each zero c = refl
+none_each (suc n) zero = refl
+none_each (suc n) (suc c) = none_each n c

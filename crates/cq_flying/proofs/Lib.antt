@@ -1,0 +1,4 @@
+pub mod Opened
+pub mod Steps
+pub mod Comings
+pub mod Clients
