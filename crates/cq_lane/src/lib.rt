@@ -5,6 +5,8 @@
 mod lanes;
 mod ring;
 mod taker;
+#[cfg(test)]
+mod tests;
 mod view;
 
 pub use lanes::{CloseRefused, LaneSeats, Lanes, Made, Sender, close};
