@@ -3,6 +3,8 @@
 
 mod client;
 mod looker;
+#[cfg(test)]
+mod tests;
 mod view;
 mod words;
 
