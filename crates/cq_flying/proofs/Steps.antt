@@ -124,7 +124,7 @@ tries_allowed m id me i d old new near is half next may s r deep at _ =
     (λ hit.
     let hit' : x ≡ old = hit in
     let out : n ≡ d + 1 = ⊎_elim (λ (e : x ≡ 2 * n). let g : n ≡ d + 1 = omega arith in g) (λ (e : (x ≡ 2 * n + 1) × (0 < n) × Contains r.dropped (n - 1)). let q = e.0 in absurd (omega arith)) (r.each i near) in (
-      drops me.0 x h,
+      drops me.0 i x h,
       keeps,
       tt,
       record {
@@ -141,17 +141,17 @@ tries_allowed m id me i d old new near is half next may s r deep at _ =
             (λ ne. subst (IsWord (r.dropped ++ h ∷ []) (get_or r.names j 0)) (sym (get_or-set_other s.words i j new 0 ne)) (word_more r.dropped h (get_or r.names j 0) (get_or s.words j 0) (r.each j lt)));
         once = r.once;
         within = (λ k has. Contains-append_left r.dropped (h ∷ []) k (r.within k has));
-        views = fits_set (Fits r.owner r.looker r.names (r.dropped ++ h ∷ []) r.seen) s.views id (drops me.0 x h)
+        views = fits_set (Fits r.owner r.looker r.names (r.dropped ++ h ∷ []) r.seen) s.views id (drops me.0 i x h)
             record { owns = (λ _. (mine.0, ap (λ (l : List ℕ). l ++ h ∷ []) mine.1)); looks = (r.views id me.0 at).looks }
             (λ j u other e. record { owns = (λ p. absurd (other (((r.views j u e).owns p).0 ∙ sym mine.0))); looks = (r.views j u e).looks });
       },
       ((λ _. refl), λ miss. absurd (miss hit)),
     ))
     (λ miss. (
-      misses me.0 x,
+      misses me.0 i x,
       keeps,
       tt,
-      same_words s r i id (misses me.0 x) r.seen r.within (fits_set (Fits r.owner r.looker r.names r.dropped r.seen) s.views id (misses me.0 x) record { owns = (r.views id me.0 at).owns; looks = (r.views id me.0 at).looks } (λ j u _ e. r.views j u e)),
+      same_words s r i id (misses me.0 i x) r.seen r.within (fits_set (Fits r.owner r.looker r.names r.dropped r.seen) s.views id (misses me.0 i x) record { owns = (r.views id me.0 at).owns; looks = (r.views id me.0 at).looks } (λ j u _ e. r.views j u e)),
       ((λ hit. absurd (miss hit)), λ _. refl),
     ))
 

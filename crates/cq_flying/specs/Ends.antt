@@ -27,8 +27,8 @@ dropped_at e = e.seat.me.0.dropped
 abbrev pub own_looks : OwnEnd → List (ℕ × ℕ)
 own_looks e = e.seat.me.0.looked
 
--- the words that its compare and exchange found, the oldest first
-abbrev pub own_tries : OwnEnd → List ℕ
+-- the words that its compare and exchange found, each after its place, the oldest first
+abbrev pub own_tries : OwnEnd → List (ℕ × ℕ)
 own_tries e = e.seat.me.0.tried
 
 -- what is written into each word: 0 for none, d + 1 for the delivery d
@@ -53,10 +53,10 @@ opened (suc d ∷ ns) = d ∷ opened ns
 abbrev pub NoneIs : ℕ → List (ℕ × ℕ) → ℕ → Type 0
 NoneIs w found k = (length found ≡ k) × ((i : ℕ) (p : ℕ × ℕ) → get_elem? found i ≡ some p → (p.0 ≡ i) × (p.1 ≢ w))
 
--- the 64 words were loaded and none was w; or one was, and then another word was found there
-abbrev pub IsRefused : ℕ → List (ℕ × ℕ) → List (ℕ × ℕ) → List ℕ → List ℕ → Type 0
+-- the 64 words were loaded and none was w; or one was, and then the compare and exchange found another word at its place
+abbrev pub IsRefused : ℕ → List (ℕ × ℕ) → List (ℕ × ℕ) → List (ℕ × ℕ) → List (ℕ × ℕ) → Type 0
 IsRefused w looks looks_after tries tries_after = (found : List (ℕ × ℕ)) × (looks_after ≡ looks ++ found)
-    × ((NoneIs w found 64 × (tries_after ≡ tries)) ⊎ ((k : ℕ) × (r : ℕ) × (get_elem? found k ≡ some (k, w)) × (r ≢ w) × (tries_after ≡ tries ++ r ∷ [])))
+    × ((NoneIs w found 64 × (tries_after ≡ tries)) ⊎ ((k : ℕ) × (r : ℕ) × (get_elem? found k ≡ some (k, w)) × (r ≢ w) × (tries_after ≡ tries ++ (k, r) ∷ [])))
 
 -- the delivery was written into the lowest word where none was
 abbrev pub OpensLowest : ℕ → List ℕ → List ℕ → Type 0

@@ -35,13 +35,13 @@ named v i n = record { owns = v.owns; looks = v.looks; names = slice_set v.names
 abbrev pub loaded : View → ℕ → ℕ → View
 loaded v i r = record { owns = v.owns; looks = v.looks; names = v.names; dropped = v.dropped; seen = v.seen; looked = v.looked ++ (i, r) ∷ []; tried = v.tried }
 
--- a compare and exchange found r and dropped d
-abbrev pub drops : View → ℕ → ℕ → View
-drops v r d = record { owns = v.owns; looks = v.looks; names = v.names; dropped = v.dropped ++ d ∷ []; seen = v.seen; looked = v.looked; tried = v.tried ++ r ∷ [] }
+-- a compare and exchange of the word i found r and dropped d
+abbrev pub drops : View → ℕ → ℕ → ℕ → View
+drops v i r d = record { owns = v.owns; looks = v.looks; names = v.names; dropped = v.dropped ++ d ∷ []; seen = v.seen; looked = v.looked; tried = v.tried ++ (i, r) ∷ [] }
 
--- a compare and exchange found r, which is another word
-abbrev pub misses : View → ℕ → View
-misses v r = record { owns = v.owns; looks = v.looks; names = v.names; dropped = v.dropped; seen = v.seen; looked = v.looked; tried = v.tried ++ r ∷ [] }
+-- a compare and exchange of the word i found r, which is another
+abbrev pub misses : View → ℕ → ℕ → View
+misses v i r = record { owns = v.owns; looks = v.looks; names = v.names; dropped = v.dropped; seen = v.seen; looked = v.looked; tried = v.tried ++ (i, r) ∷ [] }
 
 -- a load of the word i found r, which says that d is dropped
 abbrev pub saw_drop : View → ℕ → ℕ → ℕ → View
@@ -61,7 +61,7 @@ loads_it st m r k = k ≡ (loaded m.0 st.word r, m.1)
 
 -- the owner's compare and exchange: the delivery is dropped exactly where the word was found that was expected
 abbrev pub tries_it : Step ℕ → Flier → ℕ → Flier → Type 0
-tries_it st m r k = (r ≡ st.first → k ≡ (drops m.0 r (st.first / 2 - 1), m.1)) × (r ≢ st.first → k ≡ (misses m.0 r, m.1))
+tries_it st m r k = (r ≡ st.first → k ≡ (drops m.0 st.word r (st.first / 2 - 1), m.1)) × (r ≢ st.first → k ≡ (misses m.0 st.word r, m.1))
 
 -- the looker's load: the word is one more than twice what was written there, and then that delivery was dropped; or twice
 abbrev pub looks_at : Step ℕ → Flier → ℕ → Flier → Type 0

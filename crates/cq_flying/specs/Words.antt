@@ -35,8 +35,8 @@ dropped_by o = dropped_at o.end
 abbrev pub looks_by : Owner → List (ℕ × ℕ)
 looks_by o = own_looks o.end
 
--- the words that its compare and exchange found, the oldest first
-abbrev pub tries_by : Owner → List ℕ
+-- the words that its compare and exchange found, each after its place, the oldest first
+abbrev pub tries_by : Owner → List (ℕ × ℕ)
 tries_by o = own_tries o.end
 
 -- the deliveries that the owner of this place dropped

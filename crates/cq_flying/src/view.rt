@@ -5,7 +5,8 @@ use std::collections::LinkedList;
 
 /// The roles that the seat holds; what the looker has written into each word (0 for none, d + 1 for the delivery d); the
 /// deliveries that were dropped and those that were seen dropped; the words that the loads of this seat found, each with
-/// its place; and those that its compare and exchange found. No value of it is made.
+/// its place; and those that its compare and exchange found, each with
+/// its place. No value of it is made.
 pub struct View {
     pub owns: bool,
     pub looks: bool,
@@ -13,7 +14,7 @@ pub struct View {
     pub dropped: LinkedList<u64>,
     pub seen: LinkedList<u64>,
     pub looked: LinkedList<(u64, u64)>,
-    pub tried: LinkedList<u64>,
+    pub tried: LinkedList<(u64, u64)>,
 }
 
 /// The rule of a client's words and views.

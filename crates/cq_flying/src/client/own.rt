@@ -19,7 +19,7 @@ impl OwnEnd {
     fn drop_at(&mut self, words: &ClientWords, word: usize, delivery: u32) -> bool
         requires { (own_end_id self.old ≡ words_id words.now) × (word < 64) }
         ensures same { (own_end_id self.new ≡ own_end_id self.old) × (own_looks self.new ≡ own_looks self.old) }
-        ensures done { MatchBool result (dropped_at self.new ≡ dropped_at self.old ++ delivery ∷ []) ((dropped_at self.new ≡ dropped_at self.old) × ((r : ℕ) × (r ≢ 2 * (delivery + 1)) × (own_tries self.new ≡ own_tries self.old ++ r ∷ []))) }
+        ensures done { MatchBool result (dropped_at self.new ≡ dropped_at self.old ++ delivery ∷ []) ((dropped_at self.new ≡ dropped_at self.old) × ((r : ℕ) × (r ≢ 2 * (delivery + 1)) × (own_tries self.new ≡ own_tries self.old ++ (word, r) ∷ []))) }
     {
         let out = 2 * (delivery as u64 + 1);
         words

@@ -42,4 +42,4 @@ returns-then-load-out-clause-cause c =
     let looks = c.drop_at.ensures.same.1 ∙ (c.load.ensures.look ∙ (ap (λ (l : List (ℕ × ℕ)). l ++ hit ∷ []) i.none.1 ∙ append_assoc _ found (hit ∷ []))) in
     let at : get_elem? (found ++ hit ∷ []) k ≡ some (k, w) = at_last found hit k i.none.2.0 ∙ ap (λ (z : ℕ). some (k, z)) c.if-load-out.true in
     let tries = c.load.ensures.same.2 ∙ i.tried in
-    on_false c.drop_at.result _ _ _ (λ h. (found ++ hit ∷ [], looks, inr (k, h.1.0, at, h.1.1, h.1.2 ∙ ap (λ (l : List ℕ). l ++ h.1.0 ∷ []) tries))) c.drop_at.ensures.done
+    on_false c.drop_at.result _ _ _ (λ h. (found ++ hit ∷ [], looks, inr (k, h.1.0, at, h.1.1, h.1.2 ∙ ap (λ (l : List (ℕ × ℕ)). l ++ (k, h.1.0) ∷ []) tries))) c.drop_at.ensures.done
