@@ -1,7 +1,7 @@
 //! The program: it serves a script from standard input on a disk in memory.
 #![tactic(auto)]
 
-use cq_io::{StdSink, StdSource, Status};
+use cq_io::{Status, StdSink, StdSource};
 use cq_memdisk::MemDisk;
 use cq_replay::offline;
 use std::env;
@@ -20,7 +20,11 @@ fn run(rt: &HostRuntime) -> Status {
     let Ok(arguments) = arguments.skip(1).collect::<Vec<String>>(alloc) else {
         return Status::Memory;
     };
-    let Ok(words) = arguments.iter().map(|word| word.as_str()).collect::<Vec<&str>>(alloc) else {
+    let Ok(words) = arguments
+        .iter()
+        .map(|word| word.as_str())
+        .collect::<Vec<&str>>(alloc)
+    else {
         return Status::Memory;
     };
     serve(rt, &words)

@@ -10,7 +10,8 @@ fn an_entry_is_spelled(rt: HostRuntime) {
         place: 128,
     };
     let expected: [u8; 32] = [
-        1, 1, 0, 0, 0, 0, 0, 5, 0, 0, 0, 0, 0, 0, 0, 0, 0, 0, 0, 0, 0, 0, 0, 1, 0, 0, 0, 0, 0, 0, 0, 0x80,
+        1, 1, 0, 0, 0, 0, 0, 5, 0, 0, 0, 0, 0, 0, 0, 0, 0, 0, 0, 0, 0, 0, 0, 1, 0, 0, 0, 0, 0, 0,
+        0, 0x80,
     ];
     assert_eq!(rt; encode(&small), expected);
     let shared = Entry {

@@ -11,6 +11,5 @@ pub use player::Player;
 pub use playing::{Ending, Played, play};
 pub use top::offline;
 
-
 #[cfg(test)]
 mod tests;

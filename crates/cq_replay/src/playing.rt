@@ -47,12 +47,7 @@ pub struct Played<C: Disk> {
 
 /// Serves a script on a scratch disk that has no files, by its schedule and then to its end, and puts the text of its
 /// session.
-pub fn play<C: Disk, W: Sink>(
-    alloc: Global,
-    script: Script,
-    scratch: C,
-    sink: &mut W,
-) -> Played<C>
+pub fn play<C: Disk, W: Sink>(alloc: Global, script: Script, scratch: C, sink: &mut W) -> Played<C>
     requires limits { KeepsLimits script }
     requires no_files { C.tells → (n : Name) → C.files scratch n ≡ None }
     // Whatever the ending, what the session did was allowed.

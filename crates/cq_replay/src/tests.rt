@@ -48,7 +48,10 @@ fn file(kind: Kind) -> Name {
 fn a_message_is_published_written_and_got(rt: HostRuntime) -> Result<(), Fail> {
     let row = replayed(rt.alloc(), &["replay"], HELLO, &[], &[], &[])?;
     assert_eq!(rt; row.status, Status::Ok);
-    assert_eq!(rt; row.text.as_slice(), b"session 0\nc0 published 0\nc0 got 0 q0 5 text hello\nc0 confirmed 0\nok\n".as_slice());
+    assert_eq!(rt;
+        row.text.as_slice(),
+        b"session 0\nc0 published 0\nc0 got 0 q0 5 text hello\nc0 confirmed 0\nok\n".as_slice()
+    );
     let Some(small) = row.disk.bytes(file(Kind::Small)) else {
         assert!(rt; false, "no small store");
         return Ok(());
@@ -60,11 +63,26 @@ fn a_message_is_published_written_and_got(rt: HostRuntime) -> Result<(), Fail> {
         return Ok(());
     };
     assert_eq!(rt; index.len(), 160);
-    assert_eq!(rt; &index[..17], b"CQGATE01\x01\x01\x00\x00\x00\x00\x00\x00\x01".as_slice());
-    assert_eq!(rt; &index[32..40], b"\x00\x00\x00\x00\x00\x00\x00\x80".as_slice());
-    assert_eq!(rt; &index[64..72], b"\x00\x00\x00\x00\x00\x00\x00\xa0".as_slice());
-    assert_eq!(rt; &index[128..144], b"\x01\x01\x00\x00\x00\x00\x00\x05\x00\x00\x00\x00\x00\x00\x00\x00".as_slice());
-    assert_eq!(rt; &index[144..], b"\x00\x00\x00\x00\x00\x00\x00\x01\x00\x00\x00\x00\x00\x00\x00\x80".as_slice());
+    assert_eq!(rt;
+        &index[..17],
+        b"CQGATE01\x01\x01\x00\x00\x00\x00\x00\x00\x01".as_slice()
+    );
+    assert_eq!(rt;
+        &index[32..40],
+        b"\x00\x00\x00\x00\x00\x00\x00\x80".as_slice()
+    );
+    assert_eq!(rt;
+        &index[64..72],
+        b"\x00\x00\x00\x00\x00\x00\x00\xa0".as_slice()
+    );
+    assert_eq!(rt;
+        &index[128..144],
+        b"\x01\x01\x00\x00\x00\x00\x00\x05\x00\x00\x00\x00\x00\x00\x00\x00".as_slice()
+    );
+    assert_eq!(rt;
+        &index[144..],
+        b"\x00\x00\x00\x00\x00\x00\x00\x01\x00\x00\x00\x00\x00\x00\x00\x80".as_slice()
+    );
     Ok(())
 }
 
@@ -76,10 +94,30 @@ fn scripts_have_their_texts(rt: HostRuntime) -> Result<(), Fail> {
     assert_eq!(rt; row.text.as_slice(), b"session 0\nok\n".as_slice());
     assert!(rt; row.disk.bytes(file(Kind::Index)).is_none());
     assert!(rt; row.disk.bytes(file(Kind::Small)).is_none());
-    let row = replayed(alloc, &["replay"], b"client 0\nget 0\nschedule c0 t0", &[], &[], &[])?;
-    assert_eq!(rt; row.text.as_slice(), b"session 0\nc0 empty q0\nok\n".as_slice());
-    let row = replayed(alloc, &["replay"], b"client 0\npublish 0 text a\npublish 0 text b\nget 0\nget 0\nget 0\n", &[], &[], &[])?;
-    assert_eq!(rt; row.text.as_slice(), b"session 0\nc0 published 0\nc0 published 1\nc0 got 0 q0 1 text a\nc0 got 1 q0 1 text b\nc0 empty q0\nc0 confirmed 0\nc0 confirmed 1\nok\n".as_slice());
+    let row = replayed(
+        alloc,
+        &["replay"],
+        b"client 0\nget 0\nschedule c0 t0",
+        &[],
+        &[],
+        &[],
+    )?;
+    assert_eq!(rt;
+        row.text.as_slice(),
+        b"session 0\nc0 empty q0\nok\n".as_slice()
+    );
+    let row = replayed(
+        alloc,
+        &["replay"],
+        b"client 0\npublish 0 text a\npublish 0 text b\nget 0\nget 0\nget 0\n",
+        &[],
+        &[],
+        &[],
+    )?;
+    assert_eq!(rt;
+        row.text.as_slice(),
+        b"session 0\nc0 published 0\nc0 published 1\nc0 got 0 q0 1 text a\nc0 got 1 q0 1 text b\nc0 empty q0\nc0 confirmed 0\nc0 confirmed 1\nok\n".as_slice()
+    );
     Ok(())
 }
 
@@ -91,7 +129,14 @@ fn each_status_has_its_cause(rt: HostRuntime) -> Result<(), Fail> {
     assert_eq!(rt; row.text.as_slice(), b"refused words\n".as_slice());
     let row = replayed(alloc, &["replay", "replay"], HELLO, &[], &[], &[])?;
     assert_eq!(rt; row.status, Status::Words);
-    let row = replayed(alloc, &["replay"], b"client 0\npublish 1 text a\n", &[], &[], &[])?;
+    let row = replayed(
+        alloc,
+        &["replay"],
+        b"client 0\npublish 1 text a\n",
+        &[],
+        &[],
+        &[],
+    )?;
     assert_eq!(rt; row.status, Status::Script);
     assert_eq!(rt; row.text.as_slice(), b"refused script\n".as_slice());
     let row = replayed(alloc, &["replay"], HELLO, &[0], &[], &[])?;
@@ -99,7 +144,10 @@ fn each_status_has_its_cause(rt: HostRuntime) -> Result<(), Fail> {
     assert_eq!(rt; row.text.as_slice(), b"fault input\n".as_slice());
     let row = replayed(alloc, &["replay"], HELLO, &[], &[13], &[])?;
     assert_eq!(rt; row.status, Status::DiskFault);
-    assert_eq!(rt; row.text.as_slice(), b"session 0\nc0 published 0\nfault disk\n".as_slice());
+    assert_eq!(rt;
+        row.text.as_slice(),
+        b"session 0\nc0 published 0\nfault disk\n".as_slice()
+    );
     let row = replayed(alloc, &["replay"], HELLO, &[], &[], &[1])?;
     assert_eq!(rt; row.status, Status::OutputFault);
     assert_eq!(rt; row.text.as_slice(), b"session 0\n".as_slice());

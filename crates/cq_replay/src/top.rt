@@ -88,12 +88,7 @@ fn refused<C: Disk, W: Sink>(alloc: Global, status: Status, scratch: C, sink: &m
 }
 
 /// Serves a script, and puts the last line.
-fn served<C: Disk, W: Sink>(
-    alloc: Global,
-    script: Script,
-    scratch: C,
-    sink: &mut W,
-) -> Outcome<C>
+fn served<C: Disk, W: Sink>(alloc: Global, script: Script, scratch: C, sink: &mut W) -> Outcome<C>
     requires limits { KeepsLimits script }
     requires no_files { C.tells → (n : Name) → C.files scratch n ≡ None }
     ensures ending { IsEnding result.status }
