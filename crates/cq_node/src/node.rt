@@ -284,11 +284,8 @@ impl<D: Disk> Node<D> {
         if self.core.reserve(count).is_err() {
             return Err(NodeError::Memory);
         }
-        if self
-            .store
-            .commit(batch.records.bytes(), &batch.entries)
-            .is_err()
-        {
+        let written = self.store.commit(batch.records.bytes(), &batch.entries);
+        if written.is_err() {
             return Err(NodeError::Fault);
         }
         let stamp = self.store.disk.moment();
