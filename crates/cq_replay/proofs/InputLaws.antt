@@ -1,10 +1,22 @@
 -- What the bytes that were read say of the input.
-use Rattle.std.proofs.Common.{◌≡◌, ℕ, ◌<◌, List, length, ◌++◌, None, Some, refl, ap, ◌∙◌, sym, subst, arith, inl, inr, length-append}
-use Rattle.std.specs.Prelude.{IfSome}
+use Rattle.std.proofs.Common.{◌≡◌, ℕ, ◌<◌, ◌≤◌, ◌+◌, cond, List, length, ◌++◌, None, Some, Result, Ok, Err, refl, ap, ◌∙◌, sym, subst, arith, inl, inr, ⊎_elim, length-append}
+use Rattle.std.specs.Prelude.{IfSome, take}
+use Rattle.std.proofs.lemmas.Bool.{lt-ltb}
+use Rattle.std.proofs.lemmas.Bool.Decides.{leb_tells}
 use Rattle.std.specs.declared.option.Option.{Option}
 use Rattle.std.specs.Io.KnownBytes.{Consumes, IsAtEnd}
 use Rattle.std.proofs.KnownBytes.{Consumes-trans, Consumes-whole}
+use Rattle.cq_script.specs.declared.reading.Reading.{Reading}
+use Rattle.cq_script.specs.declared.script.Why.{Why}
+use Rattle.cq_script.specs.declared.script.Why.TheVariants as why
+use Rattle.cq_script.specs.declared.script.ScriptError.{ScriptError}
+use Rattle.cq_script.specs.declared.script.ScriptError.TheVariants.{Bad, Memory}
+use Rattle.cq_script.specs.Words.{script_lines, line_ends}
+use Rattle.cq_script.specs.Grammar.{take_lines, nothing_read, script_of}
+use Rattle.cq_script.specs.Scripts.{ReadsScript}
+use Rattle.cq_io.specs.declared.status.Status.TheVariants as status
 use Rattle.cq_replay.specs.Input.{IsJudged, GrewBy}
+use Rattle.cq_replay.specs.Outcomes.{IsOfForm, AgreesWithInput}
 
 pub judged-end : (a b : Option (List ℕ)) (bytes : List ℕ) → Consumes a b bytes → IsAtEnd b → IfSome a (IsJudged bytes)
 judged-end a b bytes read end = Consumes-whole a b bytes (IsJudged bytes) read end (inl refl)
@@ -16,3 +28,32 @@ judged-long (Some x) (Some y) bytes read long = inr (long, omega (arith, ap leng
 
 pub more : (a b c : Option (List ℕ)) (old new : List ℕ) → Consumes a b old → GrewBy b c old new → Consumes a c new
 more a b c old new read grew = subst (λ bs. Consumes a c bs) (sym grew.2) (Consumes-trans a b c old grew.0 read grew.1)
+
+-- what is longer than a script may be isn't of the form
+long-isnt : (bytes : List ℕ) → 1048576 < length bytes → IsOfForm bytes → ⊥
+long-isnt bytes long (reading, said) =
+    let refused : script_of bytes ≡ Err (Bad (line_ends (take 1048576 bytes) + 1) why.Long) =
+    ap (λ b. cond b (Err (Bad (line_ends (take 1048576 bytes) + 1) why.Long)) (take_lines 1 (Ok nothing_read) (script_lines bytes))) (lt-ltb 1048576 (length bytes) long) in
+    let clash : Err (Bad (line_ends (take 1048576 bytes) + 1) why.Long) ≡ Ok reading = sym refused ∙ said in
+    cc
+
+-- what is of the form isn't longer than a script may be
+pub form-short : (bytes : List ℕ) → IsOfForm bytes → length bytes ≤ 1048576
+form-short bytes form = ⊎_elim (λ short. short.1) (λ long. absurd (long-isnt bytes long.1 form)) (leb_tells (length bytes) 1048576)
+
+-- the input is of the form where the bytes that were read are, and only there
+pub judged-form : (left : Option (List ℕ)) (bytes seen : List ℕ) → seen ≡ bytes → IfSome left (IsJudged bytes) → IsOfForm seen → IfSome left IsOfForm
+judged-form None bytes seen same judged form = tt
+judged-form (Some input) bytes seen same (inl whole) form = subst IsOfForm (same ∙ sym whole) form
+judged-form (Some input) bytes seen same (inr long) form = absurd (long-isnt bytes long.0 (subst IsOfForm same form))
+
+-- the reader found a bad line
+unread : (seen : List ℕ) (error : ScriptError) (n : ℕ) (w : Why) → error ≡ Bad n w → ReadsScript (Err error) (script_of seen) → IsOfForm seen → ⊥
+unread seen Memory n w is read form = (let clash : Memory ≡ Bad n w = is in cc)
+unread seen (Bad m v) n w is read form = (let clash : Err (Bad m v) ≡ Ok form.0 = sym read ∙ form.1 in cc)
+
+pub judged-bad : (left : Option (List ℕ)) (bytes seen : List ℕ) → seen ≡ bytes → IfSome left (IsJudged bytes)
+    → (error : ScriptError) (n : ℕ) (w : Why) → error ≡ Bad n w → ReadsScript (Err error) (script_of seen) → IfSome left (AgreesWithInput status.Script)
+judged-bad None bytes seen same judged error n w is read = tt
+judged-bad (Some input) bytes seen same (inl whole) error n w is read = λ form. unread seen error n w is read (subst IsOfForm (whole ∙ sym same) form)
+judged-bad (Some input) bytes seen same (inr long) error n w is read = λ form. long-isnt input long.1 form

@@ -1,11 +1,13 @@
 -- What the top call hands back.
-use Rattle.std.specs.Prelude.{◌≡◌, ℕ, List, [], ◌∷◌, ◌++◌, codes}
+use Rattle.std.specs.Prelude.{◌≡◌, ℕ, List, [], ◌∷◌, ◌++◌, codes, Ok, None, Some, IfSome}
 use Rattle.std.specs.declared.option.Option.{Option}
 use Rattle.std.specs.Io.KnownBytes.{Appends}
 use Rattle.cq_io.specs.declared.status.Status.{Status}
 use Rattle.cq_io.specs.declared.status.Status.TheVariants as status
 use Rattle.cq_journal.specs.declared.session.Session.{Session}
 use Rattle.cq_print.specs.Text.{text_of}
+use Rattle.cq_script.specs.declared.reading.Reading.{Reading}
+use Rattle.cq_script.specs.Grammar.{script_of}
 use Rattle.cq_replay.specs.Words.{IsCommand}
 use Rattle.cq_replay.specs.declared.playing.Ending.{Ending}
 use Rattle.cq_replay.specs.declared.playing.Ending.TheVariants.{Served, Failed, Output, Memory}
@@ -19,6 +21,20 @@ AgreesWithWords status.DiskFault words = IsCommand words
 AgreesWithWords status.Memory words = IsCommand words
 AgreesWithWords status.OutputFault words = IsCommand words
 AgreesWithWords status.InputFault words = IsCommand words
+
+-- the input is a script of the form
+abbrev pub IsOfForm : List ℕ → Type 0
+IsOfForm input = (reading : Reading) × (script_of input ≡ Ok reading)
+
+-- the status agrees with the input: Script is answered only where it isn't of the form, and what was served is
+abbrev pub AgreesWithInput : Status → List ℕ → Type 0
+AgreesWithInput status.Script input = IsOfForm input → ⊥
+AgreesWithInput status.Ok input = IsOfForm input
+AgreesWithInput status.DiskFault input = IsOfForm input
+AgreesWithInput status.OutputFault input = IsOfForm input
+AgreesWithInput status.Words input = Unit {0}
+AgreesWithInput status.InputFault input = Unit {0}
+AgreesWithInput status.Memory input = Unit {0}
 
 -- a status that comes before a session
 abbrev pub IsRefusal : Status → Type 0
@@ -43,6 +59,17 @@ ending-words status.Memory words e h = h
 ending-words status.Words words e h = absurd e
 ending-words status.Script words e h = absurd e
 ending-words status.InputFault words e h = absurd e
+
+-- what a session ends with agrees with an input of the form
+pub ending-input : (s : Status) (left : Option (List ℕ)) → IsEnding s → IfSome left IsOfForm → IfSome left (AgreesWithInput s)
+ending-input s None e h = tt
+ending-input status.Ok (Some input) e h = h
+ending-input status.DiskFault (Some input) e h = h
+ending-input status.OutputFault (Some input) e h = h
+ending-input status.Memory (Some input) e h = tt
+ending-input status.Words (Some input) e h = absurd e
+ending-input status.Script (Some input) e h = absurd e
+ending-input status.InputFault (Some input) e h = absurd e
 
 -- the status of an ending; one that was served may fail at the last line
 abbrev pub StatusOf : Ending → Status → Type 0

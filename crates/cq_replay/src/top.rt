@@ -1,13 +1,13 @@
 // The top call.
-ghost use Rattle.std.specs.Prelude.{◌≡◌, ◌≤◌, ◌++◌, ◌∷◌, [], ℕ, None, map, IfOk, IfErr, IsErrOf, codes};
-ghost use Rattle.std.specs.Io.KnownBytes.{Appends};
+ghost use Rattle.std.specs.Prelude.{◌≡◌, ◌≤◌, ◌++◌, ◌∷◌, [], ℕ, None, map, IfOk, IfErr, IfSome, IsErrOf, codes};
+ghost use Rattle.std.specs.Io.KnownBytes.{Appends, IsAtEnd};
 ghost use Rattle.cq_disk.specs.declared.name.Name.{Name};
 ghost use Rattle.cq_disk.specs.Rose.{Rose};
 ghost use Rattle.cq_disk.specs.Call.{BeforeFuse};
 ghost use Rattle.cq_script.specs.Scripts.{KeepsLimits};
 ghost use Rattle.cq_replay.specs.Words.{IsCommand};
 ghost use Rattle.cq_replay.specs.Played.{AreLegal};
-ghost use Rattle.cq_replay.specs.Outcomes.{AgreesWithWords, IsRefusal, IsEnding, StatusOf, TextAndOk};
+ghost use Rattle.cq_replay.specs.Outcomes.{AgreesWithWords, AgreesWithInput, IsOfForm, IsRefusal, IsEnding, StatusOf, TextAndOk};
 
 use crate::input::{InputError, read_input};
 use crate::playing::{Ending, Played, play};
@@ -30,6 +30,10 @@ pub fn offline<S: Source, C: Disk, W: Sink>(
     requires no_files { C.tells → (n : Name) → C.files scratch n ≡ None }
     // Words is answered exactly where the words aren't those of the command.
     ensures words { AgreesWithWords result.status (map (λ w. w.now) words.now) }
+    // Script is answered only where the input isn't of the form, and a session is served only where it is; at Ok the
+    // input was read to its end.
+    ensures form { IfSome (S.left source.old) (AgreesWithInput result.status) }
+    ensures whole { result.status ≡ Status.Ok → IsAtEnd (S.left source.new) }
 
     // Whatever the status, what the sessions did was allowed; at Ok the text of the session and `ok` were taken.
     ensures legal { AreLegal result.sessions.items }
@@ -51,6 +55,9 @@ pub fn offline<S: Source, C: Disk, W: Sink>(
 fn judge<S: Source>(alloc: Global, words: &[&str], source: &mut S) -> Result<Script, Status>
     ensures ok { IfOk result (λ script. IsCommand (map (λ w. w.now) words.now) × KeepsLimits script) }
     ensures err { IfErr result (λ status. IsRefusal status × AgreesWithWords status (map (λ w. w.now) words.now)) }
+    ensures form { IfOk result (λ script. IfSome (S.left source.old) IsOfForm) }
+    ensures whole { IfOk result (λ script. IsAtEnd (S.left source.new)) }
+    ensures no_form { IfErr result (λ status. IfSome (S.left source.old) (AgreesWithInput status)) }
     ensures input { IsErrOf result Status.InputFault → Rose (S.faults source.old) (S.faults source.new) }
 {
     if !is_command(words) {
