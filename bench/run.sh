@@ -29,8 +29,10 @@ for kind in none once often; do
   for publishes in 1024 2048 4096; do
     script "$publishes" "$kind" > "$work/script.cq"
     python3 - "$program" "$work/script.cq" "$kind" "$publishes" <<'PY'
-import os, resource, subprocess, sys, time
+import fcntl, os, select, subprocess, sys, time
 program, path, kind, publishes = sys.argv[1:]
+
+# the best of five runs
 best = None
 for _ in range(5):
     with open(path, "rb") as script:
@@ -39,7 +41,18 @@ for _ in range(5):
         spent = time.perf_counter() - begin
     assert done.returncode == 0, done.returncode
     best = spent if best is None else min(best, spent)
-peak = resource.getrusage(resource.RUSAGE_CHILDREN).ru_maxrss
+
+# the peak of memory, read while the program waits for its text to be taken: all has been served by then
+SET_PIPE_SIZE = 1031
+out, into = os.pipe()
+fcntl.fcntl(out, SET_PIPE_SIZE, 4096)
+with open(path, "rb") as script, open(out, "rb") as text, subprocess.Popen([program, "replay"], stdin=script, stdout=into) as run:
+    os.close(into)
+    select.select([text], [], [])
+    time.sleep(0.1)
+    with open(f"/proc/{run.pid}/status") as status:
+        peak = next(int(line.split()[1]) for line in status if line.startswith("VmHWM"))
+    text.read()
 print(f"schedule {kind:5} publishes {publishes:5} gets 64: {best:.3f} s, peak {peak / 1024:.1f} MiB")
 PY
   done
