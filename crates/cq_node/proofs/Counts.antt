@@ -1,6 +1,6 @@
 -- How many publishes there are, by the journal and by what was asked.
-use Rattle.std.proofs.Common.{◌≡◌, ℕ, ◌+◌, ◌-◌, ◌≤◌, Bool, true, false, cond, List, [], ◌∷◌, ◌++◌, refl, sym, ap, ◌∙◌, arith}
-use Rattle.std.specs.Prelude.{◌==◌, count_by}
+use Rattle.std.proofs.Common.{◌≡◌, ℕ, ◌+◌, ◌≤◌, true, false, cond, List, [], ◌∷◌, ◌++◌, ap, ◌∙◌, arith}
+use Rattle.std.specs.Prelude.{◌==◌}
 use Rattle.std.proofs.lemmas.List.Sums.{sum_by-append}
 use Rattle.cq_inbox.specs.declared.request.Request.{Request}
 use Rattle.cq_inbox.specs.declared.request.Request.TheVariants.{Publish}
@@ -11,7 +11,7 @@ use Rattle.cq_journal.specs.declared.event.Entry.{Entry}
 use Rattle.cq_journal.specs.Legal.{published}
 use Rattle.cq_journal.specs.Legal as legal
 use Rattle.cq_journal.specs.Asks.{ask, asks}
-use Rattle.cq_node.specs.Core.{undecided, confirmed}
+use Rattle.cq_node.specs.Answers.{Answers}
 
 pub publishes-append : (xs ys : List Request) → publishes (xs ++ ys) ≡ publishes xs + publishes ys
 publishes-append xs ys = sum_by-append (λ r. cond (is_publish r) 1 0) xs ys
@@ -23,3 +23,8 @@ asked_publish _ = omega arith
 pub published-asked : (past : List Entry) → published past 0 ≤ publishes (asks past 0)
 published-asked [] = omega arith
 published-asked (e ∷ past) = omega (arith, published-asked past, asked_publish e.event, publishes-append (asks past 0) (ask 0 e.event))
+
+-- an entry that answers a request has it asked
+pub answered-publishes : (client : ℕ) (request : Request) (stamp : ℕ) (old new : List Entry) → Answers client request stamp old new → publishes (asks new client) ≡ publishes (asks old client) + publishes (request ∷ [])
+answered-publishes client request stamp old new answers =
+    ap (λ l. publishes (asks l client)) answers.added ∙ publishes-append (asks old client) (ask client answers.entry.event) ∙ ap (λ l. publishes (asks old client) + publishes l) answers.asked

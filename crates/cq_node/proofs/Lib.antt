@@ -1,6 +1,9 @@
 pub mod Numbered
+pub mod Laid
+pub mod Contents
+pub mod Holds
+pub mod Writes
 pub mod Steps
 pub mod Found
-pub mod Places
 pub mod Batches
 pub mod Counts

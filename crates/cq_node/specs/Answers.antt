@@ -1,13 +1,9 @@
 -- What a step of a node adds to its journal.
-use Rattle.std.specs.Prelude.{◌≡◌, ℕ, ◌≤◌, Bool, true, List, [], ◌∷◌, map}
+use Rattle.std.specs.Prelude.{◌≡◌, ℕ, List, [], ◌∷◌}
 use Rattle.cq_journal.specs.declared.event.Entry.{Entry}
-use Rattle.cq_journal.specs.declared.event.Event.{Event}
-use Rattle.cq_journal.specs.declared.event.Event.TheVariants.{Confirmed}
 use Rattle.cq_journal.specs.declared.reply.Reply.{Reply}
 use Rattle.cq_journal.specs.declared.reply.Reply.TheVariants as reply
 use Rattle.cq_inbox.specs.declared.request.Request.{Request}
-use Rattle.cq_inbox.specs.declared.request.Request.TheVariants.{Publish, Get}
-use Rattle.cq_journal.specs.Legal.{newest}
 use Rattle.cq_journal.specs.Asks.{ask}
 
 -- the new journal has one more entry, with this stamp, which answers the client's request

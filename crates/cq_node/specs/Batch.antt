@@ -1,19 +1,24 @@
 -- What a commit writes of messages.
 use Rattle.std.specs.Prelude.{◌≡◌, ℕ, ◌+◌, ◌*◌, ◌≤◌, List, [], ◌∷◌, ◌++◌, length}
-use Rattle.cq_node.specs.declared.queue.Spot.{Spot}
+use Rattle.cq_small.specs.Record.{small_record}
+use Rattle.cq_journal.specs.declared.event.Message.{Message}
 use Rattle.cq_node.specs.declared.batch.Batch.{Batch}
-use Rattle.cq_node.specs.Core.{EndBy}
+use Rattle.cq_node.specs.Layout.{records_of, entries_of, spots_of, entry_at}
 
--- The records of so many messages, and where they stand: each ends where the records end, at the latest.
-pub record IsBatch (base count : ℕ) (batch : Batch) : Type 0 where
-  pub records : length batch.records ≤ count * 1048581
-  pub some : count * 5 ≤ length batch.records
-  pub entries : length batch.entries.items ≡ count * 32
-  pub spots : length batch.spots.items ≡ count
-  pub places : EndBy (base + length batch.records) batch.spots.items
+-- messages with these bodies, whose ids are numbers one after another
+abbrev pub numbered : ℕ → List (List ℕ) → List Message
+numbered first [] = []
+numbered first (b ∷ bs) = record { id = first; body = b } ∷ numbered (first + 1) bs
 
--- one message more, whose body has this length
-pub record Grows (base len : ℕ) (old new : Batch) : Type 0 where
-  pub records : length new.records ≡ length old.records + len + 5
-  pub entries : length new.entries.items ≡ length old.entries.items + 32
-  pub spots : new.spots.items ≡ old.spots.items ++ record { place = base + length old.records; len = len } ∷ []
+-- the records and the entries of these messages, and where the records stand, the first one here; none is too long
+pub record IsBatch (base : ℕ) (ms : List Message) (batch : Batch) : Type 0 where
+  pub records : batch.records ≡ records_of ms
+  pub entries : batch.entries.items ≡ entries_of base ms
+  pub spots : batch.spots.items ≡ spots_of base ms
+  pub most : length batch.records ≤ length ms * 1048581
+
+-- one message more
+pub record Grows (base : ℕ) (m : Message) (old new : Batch) : Type 0 where
+  pub records : new.records ≡ old.records ++ small_record m.body
+  pub entries : new.entries.items ≡ old.entries.items ++ entry_at (base + length old.records) m
+  pub spots : new.spots.items ≡ old.spots.items ++ record { place = base + length old.records; len = length m.body } ∷ []

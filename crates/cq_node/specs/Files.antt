@@ -1,27 +1,15 @@
 -- The two files of the queue, and the gates that are open on them.
-use Rattle.std.specs.Prelude.{◌≡◌, ℕ, ◌+◌, ◌<◌, ◌≤◌, Option, Some, None, IsNone}
+use Rattle.std.specs.Prelude.{◌≡◌, ℕ, ◌<◌, ◌≤◌, Option, Some, None, IsNone}
 use Rattle.cq_disk.specs.declared.name.Name.{Name}
-use Rattle.cq_disk.specs.declared.name.Kind.TheVariants.{Index, Small}
 use Rattle.cq_disk.specs.File.{File}
 use Rattle.cq_disk.specs.Files.{IsThere}
 use Rattle.cq_gate.specs.declared.gate.Gate.{Gate}
 use Rattle.cq_gate.specs.Gate.{IsGate}
 
-abbrev pub small_name : Name
-small_name = record { kind = Small; queue = 0; number = 0 }
-
-abbrev pub index_name : Name
-index_name = record { kind = Index; queue = 0; number = 0 }
-
 -- where the content of a file ends; where a first record would stand, if there is no file
 abbrev pub end_of : Option Gate → ℕ
 end_of None = 128
 end_of (Some g) = g.end
-
--- how far records of a file can be read
-abbrev pub reach_of : Option Gate → ℕ
-reach_of None = 0
-reach_of (Some g) = g.end
 
 -- the gate is this file's, which has a header and no plan
 pub record IsPlain (name : Name) (g : Gate) : Type 0 where

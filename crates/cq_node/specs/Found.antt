@@ -4,7 +4,8 @@ use Rattle.cq_journal.specs.declared.event.Entry.{Entry}
 use Rattle.cq_journal.specs.declared.event.Message.{Message}
 use Rattle.cq_journal.specs.History.{unacked, waiting}
 use Rattle.cq_journal.specs.Legal.{delivered}
-use Rattle.cq_node.specs.Core.{State, EndsBy, confirmed}
+use Rattle.cq_node.specs.Core.{State}
+use Rattle.cq_node.specs.Layout.{confirmed, IsStoredFirst}
 use Rattle.cq_node.specs.declared.queue.Next.{Next}
 use Rattle.cq_node.specs.declared.queue.Next.TheVariants as next
 
@@ -17,7 +18,7 @@ abbrev pub Finds : Next → State → Type 0
 Finds next.Busy s = length (unacked s.entries 0) ≡ 64
 Finds next.Empty s = (length (unacked s.entries 0) < 64) × (waiting s.entries 0 ≡ [])
 Finds next.Held s = (length (unacked s.entries 0) < 64) × HoldsFirst s.entries
-Finds (next.Stored spot) s = (length (unacked s.entries 0) < 64) × (0 < length (waiting s.entries 0)) × EndsBy s.top spot
+Finds (next.Stored spot) s = (length (unacked s.entries 0) < 64) × IsStoredFirst s.entries spot
 
 -- the first of these messages has this body
 abbrev pub IsFirstBody : List ℕ → List Message → Type 0

@@ -1,3 +1,4 @@
+pub mod Layout
 pub mod Core
 pub mod Answers
 pub mod Found

@@ -1,5 +1,5 @@
 -- What the steps of a node do to its journal and to the requests that wait.
-use Rattle.std.specs.Prelude.{◌≡◌, ℕ, ◌<◌, ◌≤◌, List, [], ◌∷◌, ◌++◌, Result, Ok, Err, length}
+use Rattle.std.specs.Prelude.{◌≡◌, ℕ, ◌<◌, List, [], ◌∷◌, Result, Ok, Err}
 use Rattle.cq_journal.specs.declared.event.Entry.{Entry}
 use Rattle.cq_inbox.specs.declared.request.Request.{Request}
 use Rattle.cq_node.specs.declared.outcome.Turn.{Turn}
@@ -33,3 +33,8 @@ abbrev pub Wrote : Result Step NodeError → List Entry → List Entry → Type 
 Wrote (Ok Did) old new = (0 < undecided old) × (undecided new ≡ 0) × IsQuiet old new
 Wrote (Ok Idle) old new = (new ≡ old) × (undecided old ≡ 0)
 Wrote (Err e) old new = new ≡ old
+
+-- the writer had nothing left to write
+abbrev pub IsIdle : Result Step NodeError → Type 0
+IsIdle (Ok Idle) = Unit {0}
+IsIdle _ = ⊥

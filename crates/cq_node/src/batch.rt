@@ -1,7 +1,7 @@
 // What a commit writes of messages.
 ghost use Rattle.std.specs.Prelude.{◌≡◌, ◌≤◌, ◌+◌, ◌*◌, ◌^◌, length, vec_len, IfOk, OnOk};
 ghost use Rattle.std.specs.VecDeque.{deque_len};
-ghost use Rattle.cq_node.specs.Batch.{IsBatch};
+ghost use Rattle.cq_node.specs.Batch.{IsBatch, numbered};
 
 use crate::queue::Spot;
 use cq_bytes::Body;
@@ -28,7 +28,7 @@ pub(crate) fn batch_of(
 ) -> Result<Batch, AllocError>
     requires few { length bodies.now.items ≤ 4096 }
     requires place { base ≤ 2 ^ 62 }
-    ensures { IfOk result (IsBatch base (length bodies.now.items)) }
+    ensures { IfOk result (IsBatch base (numbered (first + 1) bodies.now.items)) }
 {
     let mut batch = Batch {
         records: SmallBatch::new(alloc),
@@ -49,7 +49,7 @@ impl Batch {
         requires short { length body.now ≤ 1048576 }
         requires id { 1 ≤ id }
         requires place { base + length self.old.records ≤ 2 ^ 63 }
-        ensures { OnOk result (Grows base (length body.now) self.old self.new) }
+        ensures { OnOk result (Grows base (record { id = id; body = body.now }) self.old self.new) }
     {
         let place = base + self.records.push(body)?;
         let len = body.len() as u32;

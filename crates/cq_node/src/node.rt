@@ -6,13 +6,18 @@ ghost use Rattle.cq_disk.specs.Call.{CausedOf, StruckByOf, KeepsPlan};
 ghost use Rattle.cq_inbox.specs.Requests.{publishes};
 ghost use Rattle.cq_inbox.specs.Inbox.{held_of};
 ghost use Rattle.cq_journal.specs.declared.event.Event.TheVariants.{Opened};
+ghost use Rattle.cq_journal.specs.Confirms.{AreConfirmed};
+ghost use Rattle.cq_journal.specs.History.{line};
 ghost use Rattle.cq_journal.specs.Legal.{Legal, newest};
 ghost use Rattle.cq_journal.specs.Asks.{asks, replies};
 ghost use Rattle.cq_node.specs.declared.outcome.NodeError.TheVariants.{Fault as node_fault};
 ghost use Rattle.cq_node.specs.Answers.{Answers, bodiless};
-ghost use Rattle.cq_node.specs.Files.{reach_of};
+ghost use Rattle.cq_held.specs.Held.{as_read, Held};
+ghost use Rattle.cq_node.specs.Core.{IsWhole};
+ghost use Rattle.cq_node.specs.Files.{end_of};
+ghost use Rattle.cq_node.specs.Layout.{records_end, AreStored};
 ghost use Rattle.cq_node.specs.Found.{Finds};
-ghost use Rattle.cq_node.specs.Turned.{Turned, Answered, Wrote};
+ghost use Rattle.cq_node.specs.Turned.{Turned, Answered, Wrote, IsIdle};
 ghost use Rattle.cq_node.specs.Waiting.{is_servable, AreServable};
 
 use crate::batch::batch_of;
@@ -40,7 +45,9 @@ pub struct Node<D: Disk> {
 
     ghost stamped: { newest core.entries ≤ D.moment store.disk },
     ghost few: { publishes (asks core.entries 0) + publishes waiting.requests ≤ 4096 },
-    ghost placed: { store.halted ≡ false → core.top ≤ reach_of store.small },
+    ghost placed: { store.halted ≡ false → end_of store.small ≡ records_end core.entries },
+    ghost filed: { store.halted ≡ false → D.tells → AreStored core.entries (D.files store.disk) },
+    ghost whole: { D.tells → IsWhole core },
     ghost one_client: { config.clients ≡ 1 },
 }
 
@@ -250,9 +257,12 @@ impl<D: Disk> Node<D> {
     }
 
     /// Makes the writer's next step: it writes all messages that aren't confirmed to the small store, then their entries
-    /// to the index, and confirms them. `Idle` exactly where all are confirmed. After want of memory nothing has changed.
+    /// to the index, and confirms them. `Idle` exactly where all are confirmed; then the files hold exactly the messages
+    /// of the queue. After want of memory nothing has changed.
     pub fn write_step(&mut self) -> Result<Step, NodeError>
         ensures wrote { Wrote result self.old.core.entries self.new.core.entries }
+        ensures idle { IsIdle result → AreConfirmed self.new.core.entries × (self.new.store ≡ self.old.store) }
+        ensures held { IsIdle result → D.tells → Held (as_read (D.files self.new.store.disk)) (line self.new.core.entries) }
         ensures waiting { self.new.waiting ≡ self.old.waiting }
         ensures legal { Legal self.new.core.entries }
         ensures config { self.new.config ≡ self.old.config }
@@ -289,8 +299,7 @@ impl<D: Disk> Node<D> {
             return Err(NodeError::Fault);
         }
         let stamp = self.store.disk.moment();
-        self.core
-            .confirm_all(stamp, &batch.spots, self.store.base());
+        self.core.confirm_all(stamp, &batch.spots);
         Ok(Step::Did)
     }
 
@@ -309,10 +318,11 @@ impl<D: Disk> Node<D> {
         self.core.journal()
     }
 
-    /// The replies to a client so far, the oldest first: those of the journal, whatever the bodies.
+    /// The replies to a client so far, the oldest first: those of the journal, with whole bodies where the disk tells.
     pub fn replies(&self, client: u32) -> &[Reply]
         requires { client < self.now.config.clients }
-        ensures { map bodiless result.now ≡ map bodiless (replies self.now.core.entries client) }
+        ensures same { map bodiless result.now ≡ map bodiless (replies self.now.core.entries client) }
+        ensures whole { D.tells → result.now ≡ replies self.now.core.entries client }
     {
         self.core.replies()
     }

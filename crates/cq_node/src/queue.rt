@@ -1,7 +1,8 @@
 // The one queue of one client, in memory, with the journal.
-ghost use Rattle.std.specs.Prelude.{◌≡◌, ◌<◌, ◌≤◌, ◌+◌, ◌^◌, ◌∷◌, ◌++◌, [], List, ℕ, IfOk, OnOk, OnErr, length, map};
+ghost use Rattle.std.specs.Prelude.{◌≡◌, ◌≢◌, ◌<◌, ◌≤◌, ◌+◌, ◌^◌, ◌∷◌, ◌++◌, [], List, ℕ, IfOk, OnOk, OnErr, length, map, drop};
 ghost use Rattle.std.specs.VecDeque.{deque_len, deque_capacity};
-ghost use Rattle.cq_journal.specs.History.{unacked, waiting};
+ghost use Rattle.cq_journal.specs.Confirms.{AreConfirmed};
+ghost use Rattle.cq_journal.specs.History.{line, unacked, waiting};
 ghost use Rattle.cq_journal.specs.Legal.{Legal, newest, published};
 ghost use Rattle.cq_journal.specs.Asks.{asks, replies};
 ghost use Rattle.cq_node.specs.Answers.{Answers, bodiless};
@@ -37,7 +38,7 @@ pub enum Next {
 }
 
 /// The one queue of one client, and all that happened there. A contract sees the entries of the journal, the newest
-/// first, for how many more entries memory is reserved, and a bound on the places of the small store.
+/// first, for how many more entries memory is reserved, and the replies, the oldest first.
 #[derive(Debug, Drop)]
 pub struct Core {
     alloc: Global,
@@ -49,33 +50,33 @@ pub struct Core {
     delivered: u32,
     confirmed: u64,
     reserved: usize,
-    top: u64,
 }
 
 impl Model for Core {
-    ghost use Rattle.std.specs.Prelude.{length};
     ghost use Rattle.std.specs.Prelude.{vec_len, vec_capacity};
     ghost use Rattle.std.specs.VecDeque.{deque_len, deque_capacity};
-    ghost use Rattle.cq_node.specs.Core.{State, IsKept, HasRoom, EndBy};
+    ghost use Rattle.cq_node.specs.Core.{State, IsKept, HasRoom};
 
     ghost Value = { State };
 
-    ghost view = { λ a. record { entries = a.journal.entries; reserved = a.reserved; top = a.top } };
+    ghost view = { λ a. record { entries = a.journal.entries; reserved = a.reserved; told = a.told.items } };
 
-    ghost invariant = { λ a. IsKept a.journal.entries a.published a.delivered a.confirmed a.bodies.items (length a.places.items) a.told.items
-        × HasRoom a.reserved a.journal.room (deque_len a.bodies) (deque_capacity a.bodies) (deque_len a.places) (deque_capacity a.places) (vec_len a.told) (vec_capacity a.told)
-        × EndBy a.top a.places.items };
+    ghost invariant = { λ a. IsKept a.journal.entries a.published a.delivered a.confirmed a.bodies.items a.places.items a.told.items
+        × HasRoom a.reserved a.journal.room (deque_len a.bodies) (deque_capacity a.bodies) (deque_len a.places) (deque_capacity a.places) (vec_len a.told) (vec_capacity a.told) };
 }
 
 impl Core {
     ghost use Rattle.cq_node.specs.Found.{Finds, HoldsFirst, IsFirstBody};
-    ghost use Rattle.cq_node.specs.Core.{undecided, confirmed, Confirms, IsQuiet, EndsBy, EndBy};
+    ghost use Rattle.cq_node.specs.Core.{undecided, bodies_of, Confirms, IsQuiet, IsWhole};
+    ghost use Rattle.cq_node.specs.Batch.{numbered};
+    ghost use Rattle.cq_node.specs.Layout.{confirmed, next_spots, IsFirstSpot, stored, unstored};
 
     /// A core whose folder held no message. The opening is its one entry, with this stamp.
     pub fn open(alloc: Global, stamp: u64) -> Result<Core, AllocError>
         ensures opened { IfOk result (λ core. core.entries ≡ (record { event = Event.Opened []; stamp = stamp }) ∷ []) }
         ensures legal { IfOk result (λ core. Legal core.entries) }
-        ensures top { IfOk result (λ core. core.top ≡ 0) }
+        ensures whole { IfOk result (λ core. IsWhole core) }
+        ensures none { IfOk result (λ core. stored core.entries ≡ []) }
     {
         let mut journal = Journal::new(alloc);
         journal.reserve(1)?;
@@ -93,14 +94,13 @@ impl Core {
             delivered: 0,
             confirmed: 0,
             reserved: 0,
-            top: 0,
         })
     }
 
     /// Takes the memory that so many more entries need, but for the bodies. Where it runs out nothing else has changed.
     pub fn reserve(&mut self, count: usize) -> Result<(), AllocError>
         ensures entries { self.new.entries ≡ self.old.entries }
-        ensures top { self.new.top ≡ self.old.top }
+        ensures told { self.new.told ≡ self.old.told }
         ensures reserved { OnOk result (self.new.reserved ≡ count) }
     {
         self.reserved = 0;
@@ -116,11 +116,13 @@ impl Core {
     pub fn publish(&mut self, stamp: u64, queues: Queues, body: Body, copy: Body)
         requires one_queue { queues ≡ 0 ∷ [] }
         requires same { copy ≡ body }
+        requires short { length body ≤ 1048576 }
         requires few { published self.old.entries 0 < 2 ^ 32 }
         requires reserved { 0 < self.old.reserved }
         requires later { newest self.old.entries ≤ stamp }
         ensures answers { Answers 0 (Request.Publish queues body) stamp self.old.entries self.new.entries }
-        ensures top { self.new.top ≡ self.old.top }
+        ensures whole { IsWhole self.old → IsWhole self.new }
+        ensures stored { (stored self.new.entries ≡ stored self.old.entries) × (confirmed self.new.entries ≡ confirmed self.old.entries) }
         ensures legal { Legal self.new.entries }
     {
         let number = self.published;
@@ -160,7 +162,8 @@ impl Core {
         requires reserved { 0 < self.old.reserved }
         requires later { newest self.old.entries ≤ stamp }
         ensures answers { Answers 0 (Request.Get 0) stamp self.old.entries self.new.entries }
-        ensures top { self.new.top ≡ self.old.top }
+        ensures whole { IsWhole self.old → IsWhole self.new }
+        ensures stored { (stored self.new.entries ≡ stored self.old.entries) × (confirmed self.new.entries ≡ confirmed self.old.entries) }
         ensures legal { Legal self.new.entries }
     {
         let event = Event::Busy {
@@ -179,7 +182,8 @@ impl Core {
         requires reserved { 0 < self.old.reserved }
         requires later { newest self.old.entries ≤ stamp }
         ensures answers { Answers 0 (Request.Get 0) stamp self.old.entries self.new.entries }
-        ensures top { self.new.top ≡ self.old.top }
+        ensures whole { IsWhole self.old → IsWhole self.new }
+        ensures stored { (stored self.new.entries ≡ stored self.old.entries) × (confirmed self.new.entries ≡ confirmed self.old.entries) }
         ensures legal { Legal self.new.entries }
     {
         let event = Event::Empty {
@@ -207,7 +211,8 @@ impl Core {
         requires reserved { 0 < self.old.reserved }
         requires later { newest self.old.entries ≤ stamp }
         ensures answers { Answers 0 (Request.Get 0) stamp self.old.entries self.new.entries }
-        ensures top { self.new.top ≡ self.old.top }
+        ensures whole { IsWhole self.old → IsFirstBody body (waiting self.old.entries 0) → IsWhole self.new }
+        ensures stored { (stored self.new.entries ≡ stored self.old.entries) × (confirmed self.new.entries ≡ confirmed self.old.entries) }
         ensures legal { Legal self.new.entries }
     {
         let delivery = self.delivered;
@@ -230,7 +235,8 @@ impl Core {
 
     /// The bodies of the messages that aren't confirmed, in the order of their publishing.
     pub fn undecided(&self) -> &VecDeque<Body>
-        ensures { length result.now.items ≡ undecided self.now.entries }
+        ensures count { length result.now.items ≡ undecided self.now.entries }
+        ensures bodies { numbered (confirmed self.now.entries + 1) result.now.items ≡ unstored self.now.entries }
     {
         &self.bodies
     }
@@ -242,46 +248,36 @@ impl Core {
         self.confirmed
     }
 
-    /// Confirms the messages that aren't confirmed, which stand at these places now, each of which ends at or before
-    /// the top.
-    pub fn confirm_all(&mut self, stamp: u64, spots: &[Spot], top: u64)
-        requires all { length spots.now ≡ undecided self.old.entries }
+    /// Confirms the messages that aren't confirmed, which stand at these places now.
+    pub fn confirm_all(&mut self, stamp: u64, spots: &[Spot])
+        requires places { spots.now ≡ next_spots self.old.entries }
         requires reserved { length spots.now ≤ self.old.reserved }
-        requires top { self.old.top ≤ top }
-        requires places { EndBy top spots.now }
         requires later { newest self.old.entries ≤ stamp }
         ensures none { undecided self.new.entries ≡ 0 }
         ensures quiet { IsQuiet self.old.entries self.new.entries }
+        ensures all { stored self.new.entries ≡ line self.old.entries 0 }
         ensures later { newest self.new.entries ≤ stamp }
-        ensures top { self.new.top ≡ top }
+        ensures whole { IsWhole self.old → IsWhole self.new }
         ensures legal { Legal self.new.entries }
     {
-        self.raise(top);
+        let _ = self.undecided();
         for spot in spots {
             self.confirm(stamp, *spot);
         }
-    }
-
-    /// Raises the bound on the places.
-    fn raise(&mut self, top: u64)
-        requires { self.old.top ≤ top }
-        ensures same { (self.new.entries ≡ self.old.entries) × (self.new.reserved ≡ self.old.reserved) }
-        ensures top { self.new.top ≡ top }
-        ensures legal { Legal self.new.entries }
-    {
-        self.top = top;
+        let _ = self.journal();
     }
 
     /// Confirms the first message that isn't confirmed, which stands at this place now.
     fn confirm(&mut self, stamp: u64, spot: Spot)
         requires some { 0 < undecided self.old.entries }
+        requires place { IsFirstSpot spot (next_spots self.old.entries) }
         requires reserved { 0 < self.old.reserved }
-        requires place { EndsBy self.old.top spot }
         requires later { newest self.old.entries ≤ stamp }
         ensures confirms { Confirms stamp self.old.entries self.new.entries }
         ensures left { undecided self.old.entries ≡ undecided self.new.entries + 1 }
+        ensures rest { next_spots self.new.entries ≡ drop 1 (next_spots self.old.entries) }
         ensures reserved { self.old.reserved ≡ self.new.reserved + 1 }
-        ensures top { self.new.top ≡ self.old.top }
+        ensures whole { IsWhole self.old → IsWhole self.new }
         ensures legal { Legal self.new.entries }
     {
         let number = self.confirmed;
@@ -297,9 +293,10 @@ impl Core {
         self.reserved -= 1;
     }
 
-    /// The replies so far, the oldest first.
+    /// The replies so far, the oldest first: those of the journal, whatever the bodies.
     pub fn replies(&self) -> &[Reply]
-        ensures { map bodiless result.now ≡ map bodiless (replies self.now.entries 0) }
+        ensures told { result.now ≡ self.now.told }
+        ensures same { map bodiless result.now ≡ map bodiless (replies self.now.entries 0) }
     {
         &self.told
     }
@@ -308,6 +305,9 @@ impl Core {
     pub fn journal(&self) -> &Journal
         ensures same { result.now.entries ≡ self.now.entries }
         ensures legal { Legal self.now.entries }
+        ensures confirmed { undecided self.now.entries ≡ 0 → AreConfirmed self.now.entries }
+        ensures alone { (q : ℕ) → q ≢ 0 → line self.now.entries q ≡ [] }
+        ensures stored { undecided self.now.entries ≡ 0 → stored self.now.entries ≡ line self.now.entries 0 }
     {
         &self.journal
     }

@@ -1,10 +1,12 @@
 // The files of the queue on a disk.
-ghost use Rattle.std.specs.Prelude.{◌≡◌, ◌≢◌, ◌<◌, ◌≤◌, ◌+◌, ◌^◌, length, OnOk, OnErr, IfOk, Some, None, true, false};
+ghost use Rattle.std.specs.Prelude.{◌≡◌, ◌≢◌, ◌<◌, ◌≤◌, ◌+◌, ◌-◌, ◌^◌, ◌++◌, length, take, drop, OnOk, OnErr, IfOk, Some, None, true, false};
 ghost use Rattle.cq_disk.specs.declared.name.Name.{Name};
-ghost use Rattle.cq_disk.specs.Files.{IsThere};
+ghost use Rattle.cq_disk.specs.Files.{IsThere, SameFiles};
 ghost use Rattle.cq_disk.specs.Call.{Caused, StruckBy, KeepsPlan};
 ghost use Rattle.cq_gate.specs.Gate.{IsGate};
-ghost use Rattle.cq_node.specs.Files.{small_name, index_name, end_of, reach_of, IsFile, IsPlain};
+ghost use Rattle.cq_held.specs.Held.{small_name, index_name};
+ghost use Rattle.cq_node.specs.Files.{end_of, IsFile, IsPlain};
+ghost use Rattle.cq_node.specs.Layout.{content_in, Joins};
 
 use cq_disk::{Disk, Fault, Kind, Name};
 use cq_gate::Gate;
@@ -34,8 +36,8 @@ pub struct Store<D: Disk> {
     pub small: Option<Gate>,
     pub index: Option<Gate>,
 
-    ghost small_filed: { halted ≡ false → IsFile D.tells small_name small (D.files disk small_name) },
-    ghost index_filed: { halted ≡ false → IsFile D.tells index_name index (D.files disk index_name) },
+    ghost small_filed: { halted ≡ false → IsFile D.tells (small_name 0 0) small (D.files disk (small_name 0 0)) },
+    ghost index_filed: { halted ≡ false → IsFile D.tells (index_name 0 0) index (D.files disk (index_name 0 0)) },
 }
 
 impl<D: Disk> Store<D> {
@@ -69,7 +71,8 @@ impl<D: Disk> Store<D> {
         requires open { self.old.halted ≡ false }
         requires records { (0 < length records.now) × (length records.now ≤ 2 ^ 33) }
         requires entries { (0 < length entries.now) × (length entries.now ≤ 2 ^ 33) }
-        ensures ok { OnOk result ((self.new.halted ≡ false) × (reach_of self.new.small ≡ end_of self.old.small + length records.now) × (end_of self.new.small ≡ reach_of self.new.small)) }
+        ensures ok { OnOk result ((self.new.halted ≡ false) × (end_of self.new.small ≡ end_of self.old.small + length records.now)) }
+        ensures files { OnOk result (D.tells → Joins records.now entries.now (D.files self.old.disk) (D.files self.new.disk)) }
         ensures err { OnErr result (self.new.halted ≡ true) }
         ensures later { D.moment self.old.disk ≤ D.moment self.new.disk }
         ensures cause { Caused (D.faults self.old.disk) (D.faults self.new.disk) result }
@@ -88,8 +91,11 @@ impl<D: Disk> Store<D> {
     /// Fills a buffer with the body of the record at a place of the small store.
     pub fn read(&mut self, place: u64, into: &mut [u8]) -> Result<(), Fault>
         requires open { self.old.halted ≡ false }
-        requires within { place + length into.old + 5 ≤ reach_of self.old.small }
-        ensures ok { OnOk result ((self.new.halted ≡ false) × (reach_of self.new.small ≡ reach_of self.old.small)) }
+        requires place { 128 ≤ place }
+        requires within { place + length into.old + 5 ≤ end_of self.old.small }
+        ensures ok { OnOk result ((self.new.halted ≡ false) × (end_of self.new.small ≡ end_of self.old.small)) }
+        ensures bytes { OnOk result (D.tells → into.new ≡ take (length into.new) (drop (place - 124) (content_in (D.files self.old.disk (small_name 0 0))))) }
+        ensures files { D.tells → SameFiles (D.files self.old.disk) (D.files self.new.disk) }
         ensures err { OnErr result (self.new.halted ≡ true) }
         ensures later { D.moment self.old.disk ≤ D.moment self.new.disk }
         ensures cause { Caused (D.faults self.old.disk) (D.faults self.new.disk) result }
@@ -115,6 +121,7 @@ fn add<D: Disk>(disk: &mut D, gate: Option<Gate>, name: Name, bytes: &[u8]) -> R
     requires file { IsFile D.tells name gate (D.files disk.old name) }
     ensures end { IfOk result (λ g. g.end ≡ end_of gate + length bytes.now) }
     ensures file { IfOk result (λ g. IsFile D.tells name (Some g) (D.files disk.new name)) }
+    ensures content { OnOk result (D.tells → content_in (D.files disk.new name) ≡ content_in (D.files disk.old name) ++ bytes.now) }
     ensures others { D.tells → (n : Name) → n ≢ name → D.files disk.new n ≡ D.files disk.old n }
     ensures later { D.moment disk.old ≤ D.moment disk.new }
     ensures cause { Caused (D.faults disk.old) (D.faults disk.new) result }
@@ -141,6 +148,7 @@ fn extend<D: Disk>(disk: &mut D, mut gate: Gate, name: Name, bytes: &[u8]) -> Re
     ensures end { IfOk result (λ g. g.end ≡ gate.end + length bytes.now) }
     ensures plain { IfOk result (IsPlain name) }
     ensures gate { IfOk result (λ g. D.tells → IsThere (D.files disk.new name) (IsGate g)) }
+    ensures content { OnOk result (D.tells → content_in (D.files disk.new name) ≡ content_in (D.files disk.old name) ++ bytes.now) }
     ensures others { D.tells → (n : Name) → n ≢ name → D.files disk.new n ≡ D.files disk.old n }
     ensures later { D.moment disk.old ≤ D.moment disk.new }
     ensures cause { Caused (D.faults disk.old) (D.faults disk.new) result }

@@ -1,11 +1,59 @@
-use Rattle.std.proofs.Common.{◌≡◌, ℕ, ◌≤◌, ◌+◌, get_or, length, sym, subst, arith}
+use Rattle.std.proofs.Common.{◌≡◌, ◌≤◌, ◌+◌, ◌∷◌, get_or, drop, length, refl, sym, ap, ◌∙◌, subst, arith, append-nil}
+use Rattle.std.proofs.lemmas.List.{drop_more, drop-drop}
+use Rattle.cq_journal.specs.Asks.{asks}
+use Rattle.cq_journal.specs.History.{line}
+use Rattle.cq_journal.specs.Legal.{newest}
+use Rattle.cq_journal.specs.declared.event.Entry.{Entry}
+use Rattle.cq_journal.specs.declared.event.Event.TheVariants.{Confirmed}
 use Rattle.cq_node.specs.declared.queue.Spot.{Spot}
-use Rattle.cq_node.specs.Core.{EndsBy}
-use Rattle.cq_node.proofs.Places.{end_by-at}
+use Rattle.cq_node.specs.Core.{undecided, IsQuiet}
+use Rattle.cq_node.specs.Layout.{confirmed, unstored, records_end, IsFirstSpot}
+use Rattle.cq_node.proofs.Batches.{length-numbered}
+use Rattle.cq_node.proofs.Laid.{length-spots}
 use Rattle.cq_node.proofs.queue.Core.confirm_all.Goals as goal
+
+pub loop-spot-init : goal.loop-spot-init
+loop-spot-init c =
+    let old = c.args.self.now.entries in
+    let count : length c.args.spots.now ≡ undecided old =
+    ap length c.requires.places ∙ length-spots (records_end old) (unstored old) ∙ ap length (sym c.undecided.ensures.bodies)
+    ∙ length-numbered (confirmed old + 1) c.undecided.result.now.items ∙ c.undecided.ensures.count in
+    record {
+      left = omega (arith, count);
+      reserved = omega (arith, c.requires.reserved);
+      quiet = record { asked = refl; published_same = refl; lines_same = λ q. refl };
+      later = c.requires.later;
+      rest = sym c.requires.places;
+      whole = λ w. w;
+    }
 
 pub confirm-requires-clause-place : goal.confirm-requires-clause-place
 confirm-requires-clause-place c =
-    let none : Spot = record { place = 0; len = 0 } in
-    let spot : Spot = get_or c.args.spots.now c.loop-spot.spot-index none in
-    subst (λ (top : ℕ). EndsBy top spot) (sym c.loop-spot.invariant.top_is) (end_by-at c.args.top c.args.spots.now c.loop-spot.spot-index none c.requires.places c.loop-spot-test.true)
+    let spot : Spot = get_or c.args.spots.now c.loop-spot.spot-index (record { place = 0; len = 0 }) in
+    subst (IsFirstSpot spot) (sym (c.loop-spot.invariant.rest ∙ drop_more c.args.spots.now c.loop-spot.spot-index (record { place = 0; len = 0 }) c.loop-spot-test.true)) refl
+
+pub loop-spot-preserved : goal.loop-spot-preserved
+loop-spot-preserved c =
+    let old = c.loop-spot.self.entries in
+    let so_far = c.loop-spot.invariant in
+    let next : Entry = record { event = Confirmed 0 (confirmed old) (confirmed old + 1); stamp = c.args.stamp } in
+    let is : c.confirm.new.self.entries ≡ next ∷ old = c.confirm.ensures.confirms in
+    let step : IsQuiet old (next ∷ old) = record { asked = append-nil (asks old 0); published_same = omega arith; lines_same = λ q. append-nil (line old q) } in
+    let quiet : IsQuiet old c.confirm.new.self.entries = subst (IsQuiet old) (sym is) step in
+    record {
+      left = omega (arith, so_far.left, c.confirm.ensures.left);
+      reserved = omega (arith, so_far.reserved, c.confirm.ensures.reserved);
+      quiet = record {
+        asked = quiet.asked ∙ so_far.quiet.asked;
+        published_same = quiet.published_same ∙ so_far.quiet.published_same;
+        lines_same = λ q. quiet.lines_same q ∙ so_far.quiet.lines_same q;
+      };
+      later = subst (λ l. newest l ≤ c.args.stamp) (sym is) (omega arith);
+      rest = c.confirm.ensures.rest ∙ ap (drop 1) so_far.rest ∙ drop-drop 1 c.loop-spot.spot-index c.args.spots.now;
+      whole = λ w. c.confirm.ensures.whole (so_far.whole w);
+    }
+
+pub returns-clause-all : goal.returns-clause-all
+returns-clause-all c =
+    let none : undecided c.loop-spot.self.entries ≡ 0 = omega (arith, c.loop-spot.invariant.left, c.loop-spot-test.false, c.loop-spot.auto.spot-index-end) in
+    c.journal.ensures.stored none ∙ c.loop-spot.invariant.quiet.lines_same 0

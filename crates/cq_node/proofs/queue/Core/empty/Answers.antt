@@ -1,12 +1,15 @@
-use Rattle.std.proofs.Common.{◌≡◌, ℕ, ◌+◌, ◌-◌, ◌<◌, ◌≤◌, List, [], ◌∷◌, ◌++◌, length, refl, sym, ap, ◌∙◌, subst, arith}
-use Rattle.std.specs.Prelude.{vec_len, vec_capacity}
-use Rattle.std.specs.VecDeque.{deque_len, deque_capacity}
+use Rattle.std.proofs.Common.{◌≡◌, ◌<◌, ◌≤◌, List, [], ◌∷◌, ◌++◌, length, refl, sym, ap, ◌∙◌, subst, arith}
 use Rattle.cq_journal.specs.History.{unacked, waiting}
-use Rattle.cq_journal.specs.Legal.{newest, Legal}
+use Rattle.cq_journal.specs.Legal.{newest}
 use Rattle.cq_journal.specs.declared.event.Event.TheVariants.{Empty}
 use Rattle.cq_journal.specs.declared.event.Entry.{Entry}
-use Rattle.cq_node.specs.Core.{State, IsKept, HasRoom}
+use Rattle.cq_node.specs.Core.{State, IsWhole}
 use Rattle.cq_node.proofs.Steps.{kept-empty, kept_at}
+use Rattle.cq_journal.specs.Asks.{replies}
+use Rattle.cq_journal.specs.declared.reply.Reply.TheVariants as reply
+use Rattle.cq_node.specs.Layout.{confirmed, stored}
+use Rattle.cq_node.specs.contracts.queue.Core.{the_view}
+use Rattle.cq_node.proofs.Found.{quiet_stored}
 use Rattle.cq_node.proofs.queue.Core.empty.Goals as goal
 
 pub invariant_of-self : goal.invariant_of-self
@@ -23,5 +26,16 @@ invariant_of-self c =
         place = omega (arith, room.place);
         reply = omega (arith, room.reply, c.push_reserved.ensures.len, c.push_reserved.ensures.capacity);
       },
-      c.self.invariant.2,
     )
+
+pub returns-clause-whole : goal.returns-clause-whole
+returns-clause-whole c = λ whole.
+    let old : IsWhole (the_view c.self.inside) = subst IsWhole (sym c.self.view_is) whole in
+    let is : c.push.new.self.entries ≡ record { event = Empty 0 0; stamp = c.args.stamp } ∷ c.self.inside.journal.entries = c.push.ensures.entries in
+    ap (λ l. replies l 0) is ∙ ap (λ l. l ++ reply.Empty 0 ∷ []) old ∙ sym c.push_reserved.ensures.items
+
+pub returns-clause-stored : goal.returns-clause-stored
+returns-clause-stored c =
+    let is : c.push.new.self.entries ≡ record { event = Empty 0 0; stamp = c.args.stamp } ∷ c.self.inside.journal.entries = c.push.ensures.entries in
+    subst (λ (v : State). (stored c.push.new.self.entries ≡ stored v.entries) × (confirmed c.push.new.self.entries ≡ confirmed v.entries)) c.self.view_is
+    (subst (λ (l : List Entry). (stored l ≡ stored c.self.inside.journal.entries) × (confirmed l ≡ confirmed c.self.inside.journal.entries)) (sym is) (quiet_stored c.self.invariant.0 (record { event = Empty 0 0; stamp = c.args.stamp }) refl))

@@ -1,14 +1,12 @@
-use Rattle.std.proofs.Common.{◌≡◌, ℕ, ◌+◌, ◌-◌, ◌<◌, ◌≤◌, List, [], length, refl, sym, ap, ◌∙◌, subst, arith}
+use Rattle.std.proofs.Common.{◌≡◌, ◌<◌, [], length, sym, ◌∙◌, subst, arith}
 use Rattle.cq_journal.specs.History.{unacked, waiting}
-use Rattle.std.proofs.Common.{inl, inr}
 use Rattle.std.proofs.lemmas.Bool.{eqb-true, eqb-false}
 use Rattle.std.specs.VecDeque.{deque_len}
 use Rattle.cq_node.specs.declared.queue.Spot.{Spot}
-use Rattle.cq_node.proofs.Places.{end_by-at}
 use Rattle.cq_node.specs.Core.{State}
-use Rattle.cq_node.specs.Core.{EndsBy}
+use Rattle.cq_node.specs.Layout.{IsStoredFirst}
 use Rattle.cq_node.specs.Found.{HoldsFirst}
-use Rattle.cq_node.proofs.Found.{length-waiting, none_waits}
+use Rattle.cq_node.proofs.Found.{length-waiting, none_waits, first_stored, places_few}
 use Rattle.cq_node.proofs.queue.Core.next.Goals as goal
 
 pub returns-then-from-self : goal.returns-then-from-self
@@ -19,13 +17,12 @@ returns c =
     let h = c.self.invariant.0 in
     let spot : Spot = c.index.result.now in
     let some : 0 < length c.self.inside.places.items = omega (arith, eqb-false (deque_len c.self.inside.places) 0 (sym c.is_empty.ensures ∙ c.if-is_empty.false)) in
-    let ends : EndsBy c.self.inside.top spot = subst (λ (s : Spot). EndsBy c.self.inside.top s) (sym c.index.ensures) (end_by-at c.self.inside.top c.self.inside.places.items 0 spot c.self.invariant.2 some) in
-    subst (λ (v : State). (length (unacked v.entries 0) < 64) × (0 < length (waiting v.entries 0)) × EndsBy v.top spot) c.self.view_is
-    (omega (arith, h.open_is), omega (arith, length-waiting h, c.from.ensures), ends)
+    subst (λ (v : State). (length (unacked v.entries 0) < 64) × IsStoredFirst v.entries spot) c.self.view_is
+    (omega (arith, h.open_is), first_stored h spot some c.index.ensures)
 
 pub returns-then-is_empty : goal.returns-then-is_empty
 returns-then-is_empty c =
     let h = c.self.invariant.0 in
     let none : deque_len c.self.inside.places ≡ 0 = eqb-true (deque_len c.self.inside.places) 0 (sym c.is_empty.ensures ∙ c.if-is_empty.true) in
     subst (λ (v : State). (length (unacked v.entries 0) < 64) × HoldsFirst v.entries) c.self.view_is
-    (omega (arith, h.open_is), (omega (arith, length-waiting h, c.from.ensures), omega (arith, h.confirmed_is, h.delivered_is, h.places_are, none)))
+    (omega (arith, h.open_is), (omega (arith, length-waiting h, c.from.ensures), omega (arith, h.confirmed_is, h.delivered_is, places_few h, none)))
