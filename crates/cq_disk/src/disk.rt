@@ -1,10 +1,10 @@
 // The disk: its calls, and what they mean where the disk tells its files.
-ghost use Rattle.std.specs.Prelude.{◌≡◌, ◌<◌, ◌≤◌, ◌+◌, ◌-◌, ◌^◌, List, ℕ, Option, length, OnOk, OnErr, IfOk, IfSome, Some, None};
+ghost use Rattle.std.specs.Prelude.{◌≡◌, ◌<◌, ◌≤◌, ◌+◌, ◌-◌, ◌^◌, List, ℕ, Option, length, OnOk, OnErr, IsErr, IsErrOf, IfOk, IfSome, Some, None};
 ghost use Rattle.cq_disk.specs.declared.name.Name.{Name};
 ghost use Rattle.cq_disk.specs.declared.disk.DiskError.TheVariants.{Fault as disk_fault};
 ghost use Rattle.cq_disk.specs.File.{File, IsFileImage, wrote, cut_to, synced_now, fresh};
 ghost use Rattle.cq_disk.specs.Files.{Changes, ChangesWithin, Becomes, BecomesOrNot, SameFiles, IsImage, HasFile, HasRange, LenIs, Reads, NamesAre};
-ghost use Rattle.cq_disk.specs.Call.{Elapses, Caused, CausedOf, StruckBy, StruckByOf, KeepsPlan};
+ghost use Rattle.cq_disk.specs.Call.{Elapses, Caused, CausedOf, StruckBy, StruckByOf, AfterFuse, KeepsPlan};
 
 use crate::Name;
 use std::alloc::Global;
@@ -50,7 +50,7 @@ pub trait Disk {
     /// The number of faults of calls that were made before the fuse.
     ghost struck: { Self → ℕ };
 
-    /// The moment from which on calls fail, if one is set.
+    /// The moment from which on calls fail, if one is set. Such a fault raises `faults`, and not `struck`.
     ghost fuse: { Self → Option ℕ };
 
     /// The moments at which the disk was made to fail.
@@ -72,6 +72,7 @@ pub trait Disk {
         ensures time { Elapses (moment self.old) (moment self.new) (left self.old) (left self.new) }
         ensures cause { CausedOf disk_fault (faults self.old) (faults self.new) result }
         ensures strike { StruckByOf disk_fault (fuse self.old) (moment self.old) (struck self.old) (struck self.new) result }
+        ensures spent { AfterFuse (fuse self.old) (moment self.old) (faults self.old) (faults self.new) (struck self.old) (struck self.new) (IsErrOf result disk_fault) }
         ensures plan { KeepsPlan (fuse self.old) (planned self.old) (fuse self.new) (planned self.new) };
 
     /// The length of a file in bytes, which is at most 2^62; None where the file isn't there.
@@ -83,6 +84,7 @@ pub trait Disk {
         ensures time { Elapses (moment self.old) (moment self.new) (left self.old) (left self.new) }
         ensures cause { Caused (faults self.old) (faults self.new) result }
         ensures strike { StruckBy (fuse self.old) (moment self.old) (struck self.old) (struck self.new) result }
+        ensures spent { AfterFuse (fuse self.old) (moment self.old) (faults self.old) (faults self.new) (struck self.old) (struck self.new) (IsErr result) }
         ensures plan { KeepsPlan (fuse self.old) (planned self.old) (fuse self.new) (planned self.new) };
 
     /// Fills a buffer with the file's bytes from a place on. The range lies in the file.
@@ -94,6 +96,7 @@ pub trait Disk {
         ensures time { Elapses (moment self.old) (moment self.new) (left self.old) (left self.new) }
         ensures cause { Caused (faults self.old) (faults self.new) result }
         ensures strike { StruckBy (fuse self.old) (moment self.old) (struck self.old) (struck self.new) result }
+        ensures spent { AfterFuse (fuse self.old) (moment self.old) (faults self.old) (faults self.new) (struck self.old) (struck self.new) (IsErr result) }
         ensures plan { KeepsPlan (fuse self.old) (planned self.old) (fuse self.new) (planned self.new) };
 
     /// Writes over the file's bytes from a place on, and past its end. The place isn't above the file's length.
@@ -107,6 +110,7 @@ pub trait Disk {
         ensures time { Elapses (moment self.old) (moment self.new) (left self.old) (left self.new) }
         ensures cause { Caused (faults self.old) (faults self.new) result }
         ensures strike { StruckBy (fuse self.old) (moment self.old) (struck self.old) (struck self.new) result }
+        ensures spent { AfterFuse (fuse self.old) (moment self.old) (faults self.old) (faults self.new) (struck self.old) (struck self.new) (IsErr result) }
         ensures plan { KeepsPlan (fuse self.old) (planned self.old) (fuse self.new) (planned self.new) };
 
     /// Cuts a file to a length that isn't above its own. It lasts only once the file is synced.
@@ -118,6 +122,7 @@ pub trait Disk {
         ensures time { Elapses (moment self.old) (moment self.new) (left self.old) (left self.new) }
         ensures cause { Caused (faults self.old) (faults self.new) result }
         ensures strike { StruckBy (fuse self.old) (moment self.old) (struck self.old) (struck self.new) result }
+        ensures spent { AfterFuse (fuse self.old) (moment self.old) (faults self.old) (faults self.new) (struck self.old) (struck self.new) (IsErr result) }
         ensures plan { KeepsPlan (fuse self.old) (planned self.old) (fuse self.new) (planned self.new) };
 
     /// Makes sure of a file's bytes and length: after it a crash leaves what a read gives.
@@ -129,6 +134,7 @@ pub trait Disk {
         ensures time { Elapses (moment self.old) (moment self.new) (left self.old) (left self.new) }
         ensures cause { Caused (faults self.old) (faults self.new) result }
         ensures strike { StruckBy (fuse self.old) (moment self.old) (struck self.old) (struck self.new) result }
+        ensures spent { AfterFuse (fuse self.old) (moment self.old) (faults self.old) (faults self.new) (struck self.old) (struck self.new) (IsErr result) }
         ensures plan { KeepsPlan (fuse self.old) (planned self.old) (fuse self.new) (planned self.new) };
 
     /// Makes an empty file where none is. It lasts once it answered Ok.
@@ -140,6 +146,7 @@ pub trait Disk {
         ensures time { Elapses (moment self.old) (moment self.new) (left self.old) (left self.new) }
         ensures cause { Caused (faults self.old) (faults self.new) result }
         ensures strike { StruckBy (fuse self.old) (moment self.old) (struck self.old) (struck self.new) result }
+        ensures spent { AfterFuse (fuse self.old) (moment self.old) (faults self.old) (faults self.new) (struck self.old) (struck self.new) (IsErr result) }
         ensures plan { KeepsPlan (fuse self.old) (planned self.old) (fuse self.new) (planned self.new) };
 
     /// Removes a file that is there. It lasts once it answered Ok.
@@ -151,6 +158,7 @@ pub trait Disk {
         ensures time { Elapses (moment self.old) (moment self.new) (left self.old) (left self.new) }
         ensures cause { Caused (faults self.old) (faults self.new) result }
         ensures strike { StruckBy (fuse self.old) (moment self.old) (struck self.old) (struck self.new) result }
+        ensures spent { AfterFuse (fuse self.old) (moment self.old) (faults self.old) (faults self.new) (struck self.old) (struck self.new) (IsErr result) }
         ensures plan { KeepsPlan (fuse self.old) (planned self.old) (fuse self.new) (planned self.new) };
 
     /// A crash at this moment leaves an image of the files.

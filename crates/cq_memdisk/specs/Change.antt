@@ -1,7 +1,8 @@
 -- What the record of a disk's changes leads to.
-use Rattle.std.specs.Prelude.{◌≡◌, ◌+◌, ℕ, ◌≤◌, ◌<◌, ◌^◌, cond, List, [], ◌∷◌, length, take, nat_le, ◌&&◌, slice_index, Option, Some, None}
+use Rattle.std.specs.Prelude.{◌≡◌, ◌+◌, ℕ, ◌≤◌, ◌<◌, ◌^◌, cond, List, [], ◌∷◌, length, take, get_or, nat_le, ◌&&◌, slice_index, Option, Some, None, Vec}
 use Rattle.std.specs.Option.{option_map}
 use Rattle.std.specs.BTreeMap.{is_at}
+use Rattle.std.specs.declared.alloc.Global.{Global}
 use Rattle.cq_disk.specs.declared.name.Name.{Name}
 use Rattle.cq_disk.specs.Names.{name_cmp}
 use Rattle.cq_disk.specs.File.{File, IsFileImage, overwritten, wrote, cut_to, synced_now, fresh, settled}
@@ -85,4 +86,18 @@ pub record LeftBetween (notes : List Note) (since now t u : ℕ) (image : Name �
 -- what holds of each file
 pub record IsSound (f : File) : Type 0 where
   pub readable : IsFileImage f f.reads
+  pub whole : IsFileImage f f.synced
   pub short : length f.reads ≤ 2 ^ 62
+
+-- the end of a write fits
+abbrev pub FitsNow : Change → Type 0
+FitsNow change = (at : ℕ) (bytes : Vec ℕ Global) → change ≡ Write at bytes → at + length bytes.items ≤ 2 ^ 62
+
+-- a file that is synced is sound
+abbrev pub IsSoundAt : Change → File → Type 0
+IsSoundAt change f = change ≡ Sync → IsSound f
+
+-- each write of a record fits, and each file was sound before each of its changes and is now
+pub record SoundHistory (notes : List Note) : Type 0 where
+  pub fits : (k : ℕ) (d : Note) → k < length notes → FitsNow (get_or notes k d).change
+  pub sound : (k : ℕ) (n : Name) (f : File) → files_of (take k notes) n ≡ Some f → IsSound f

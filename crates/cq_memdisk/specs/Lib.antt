@@ -1,3 +1,6 @@
 pub mod Change
+pub mod Crash
 pub mod Folder
+pub mod Ranges
 pub mod Record
+pub mod Stored

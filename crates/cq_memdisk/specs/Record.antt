@@ -1,5 +1,5 @@
 -- How a record goes on.
-use Rattle.std.proofs.Common.{◌≡◌, inl, inr, ⊎_elim, ℕ, suc, ◌+◌, ◌-◌, ◌^◌, ◌≤◌, ◌<◌, min, Bool, true, false, cond, ◌&&◌, List, [], ◌∷◌, ◌++◌, length, take, drop, get_or, Option, Some, None, Result, Ok, Err, OnOk, OnErr, refl, sym, ◌∙◌, ap, subst, arith}
+use Rattle.std.proofs.Common.{◌≡◌, inl, inr, ⊎_elim, ℕ, zero, suc, ◌+◌, ◌-◌, ◌^◌, ◌≤◌, ◌<◌, min, Bool, true, false, cond, ◌&&◌, List, [], ◌∷◌, ◌++◌, length, take, drop, get_or, Option, Some, None, Result, Ok, Err, OnOk, OnErr, refl, sym, ◌∙◌, ap, subst, arith}
 use Rattle.std.specs.Prelude.{nat_le, ◌↔◌, IsSome, Contains, Vec}
 use Rattle.std.specs.Option.{option_map}
 use Rattle.std.specs.declared.alloc.Global.{Global}
@@ -7,20 +7,20 @@ use Rattle.std.specs.BTreeMap.{BTreeMap, is_at, keys, IsOrdered, get}
 use Rattle.std.specs.List.Sorted.{IsStrictlySortedBy}
 use Rattle.std.proofs.lemmas.Map.Views.{btree_map_contains_key_iff}
 use Rattle.std.proofs.lemmas.Bool.{cases_lt, cases_Bool, false≢true}
-use Rattle.std.proofs.lemmas.List.{length-take-le, length-append, get_or_append_left, get_or_push}
+use Rattle.std.proofs.lemmas.List.{length-take-le, length-append, take-append-le, take_all, get_or_append_left, get_or_push}
 use Rattle.std.proofs.lemmas.Bool.Decides.{nat_tests}
 use Rattle.cq_disk.specs.declared.name.Name.{Name}
 use Rattle.cq_disk.specs.Names.{name_cmp}
 use Rattle.cq_disk.specs.NamesLemmas.{found_is, found_self, apart, distinct, names_total, exact_names}
 use Rattle.cq_disk.specs.File.{File, wrote, cut_to, synced_now, fresh, settled, IsWithin}
-use Rattle.cq_disk.specs.FileLemmas.{wrote_readable, cut_readable, settled_readable, length-overwritten}
+use Rattle.cq_disk.specs.FileLemmas.{wrote_readable, cut_readable, settled_readable, wrote_within, cut_within, length-overwritten}
 use Rattle.cq_disk.specs.Files.{HasFile, HasRange, LenIs, Reads, IsImage, IsImageOf, Becomes, SameFiles, Among, ChangesWithin, NamesAre}
 use Rattle.cq_disk.specs.Call.{Image, Elapses}
 use Rattle.cq_memdisk.specs.Folder.{bytes_of}
 use Rattle.cq_memdisk.specs.declared.change.Change.{Change}
 use Rattle.cq_memdisk.specs.declared.change.Change.TheVariants.{Write, Cut, Sync, Create, Remove, Load}
 use Rattle.cq_memdisk.specs.declared.change.Note.{Note}
-use Rattle.cq_memdisk.specs.Change.{changed, rewritten, CanChange, CanWrite, HasBytes, Fits, IsSound, replayed, replayed_by, files_at, files_of, LeftBetween}
+use Rattle.cq_memdisk.specs.Change.{changed, rewritten, CanChange, CanWrite, HasBytes, Fits, IsSound, FitsNow, SoundHistory, replayed, replayed_by, files_at, files_of, LeftBetween}
 
 -- each change is one of the past
 abbrev pub IsPast : List Note → ℕ → Type 0
@@ -133,25 +133,25 @@ sound_changed (Write at bytes) None can small fits was g is = absurd can
 sound_changed (Write at bytes) (Some f) can small fits was g is =
     let old = was f refl in
     let at_le : at ≤ length f.reads = omega (arith, can) in
-    let new : IsSound (wrote at bytes.items f) = record { readable = wrote_readable f at bytes.items at_le small old.readable; short = omega (arith, old.short, fits, length-overwritten f.reads at bytes.items at_le) } in
+    let new : IsSound (wrote at bytes.items f) = record { readable = wrote_readable f at bytes.items at_le small old.readable; whole = (wrote_within f at bytes.items old.readable).images f.synced old.whole; short = omega (arith, old.short, fits, length-overwritten f.reads at bytes.items at_le) } in
     subst IsSound (some_same is) new
 sound_changed (Cut len) None can small fits was g is = absurd can
 sound_changed (Cut len) (Some f) can small fits was g is =
     let old = was f refl in
     let le : len ≤ length f.reads = omega (arith, can) in
-    let new : IsSound (cut_to len f) = record { readable = cut_readable f len le old.readable; short = omega (arith, old.short, length-take-le len f.reads le) } in
+    let new : IsSound (cut_to len f) = record { readable = cut_readable f len le old.readable; whole = (cut_within f len old.readable).images f.synced old.whole; short = omega (arith, old.short, length-take-le len f.reads le) } in
     subst IsSound (some_same is) new
 sound_changed Sync None can small fits was g is = absurd can
 sound_changed Sync (Some f) can small fits was g is =
     let old = was f refl in
-    let new : IsSound (synced_now f) = record { readable = settled_readable f.reads old.readable.bytes; short = old.short } in
+    let new : IsSound (synced_now f) = record { readable = settled_readable f.reads old.readable.bytes; whole = settled_readable f.reads old.readable.bytes; short = old.short } in
     subst IsSound (some_same is) new
 sound_changed Create file can small fits was g is =
-    let new : IsSound fresh = record { readable = settled_readable [] (λ i. omega arith); short = omega arith } in
+    let new : IsSound fresh = record { readable = settled_readable [] (λ i. omega arith); whole = settled_readable [] (λ i. omega arith); short = omega arith } in
     subst IsSound (some_same is) new
 sound_changed Remove file can small fits was g is = cc
 sound_changed (Load bytes) file can small fits was g is =
-    let new : IsSound (settled bytes.items) = record { readable = settled_readable bytes.items small; short = fits } in
+    let new : IsSound (settled bytes.items) = record { readable = settled_readable bytes.items small; whole = settled_readable bytes.items small; short = fits } in
     subst IsSound (some_same is) new
 
 abbrev pub reads_of : Option File → Option (List ℕ)
@@ -185,7 +185,7 @@ can_write change file old is can = subst (λ (o : Option (List ℕ)). CanWrite c
 pub record IsKept (notes : List Note) (stored : Name → Option (List ℕ)) (now : ℕ) : Type 0 where
   pub kept : (n : Name) → reads_of (files_of notes n) ≡ stored n
   pub past : (k : ℕ) (d : Note) → k < length notes → (get_or notes k d).from ≤ now
-  pub sound : (n : Name) (f : File) → files_of notes n ≡ Some f → IsSound f
+  pub history : SoundHistory notes
 
 -- the files after one change more
 pub one_more : (notes : List Note) (x : Note) → Becomes x.name (changed x.change (files_of notes x.name)) (files_of notes) (files_of (notes ++ x ∷ []))
@@ -193,6 +193,22 @@ one_more notes x = record {
   this = replayed-append notes (x ∷ []) x.name None ∙ ap (λ (b : Bool). cond b (changed x.change (files_of notes x.name)) (files_of notes x.name)) (found_self x.name x.name refl);
   others = λ n other. replayed-append notes (x ∷ []) n None ∙ ap (λ (b : Bool). cond b (changed x.change (files_of notes n)) (files_of notes n)) (apart x.name n other);
 }
+
+fits_now : (change : Change) → Fits change → FitsNow change
+fits_now change fits at bytes is = subst Fits is fits
+
+-- the files are sound now
+pub sound_now : (notes : List Note) → SoundHistory notes → (n : Name) (f : File) → files_of notes n ≡ Some f → IsSound f
+sound_now notes history n f is = history.sound (length notes) n f (ap (λ (l : List Note). files_of l n) (take_all (length notes) notes (omega arith)) ∙ is)
+
+-- two folders that are the same stay so
+pub same_next : (fs gs fs' gs' : Name → Option File) (x : Note) → ((n : Name) → fs n ≡ gs n) → Becomes x.name (changed x.change (fs x.name)) fs fs' → Becomes x.name (changed x.change (gs x.name)) gs gs' → (n : Name) → fs' n ≡ gs' n
+same_next fs gs fs' gs' x same first second n = ⊎_elim
+    (λ this.
+    let is = found_is x.name n this in
+    subst (λ (m : Name). fs' m ≡ gs' m) (sym is) (first.this ∙ ap (changed x.change) (same x.name) ∙ sym second.this))
+    (λ other. let o = distinct x.name n other in first.others n o ∙ same n ∙ sym (second.others n o))
+    (cases_Bool (is_at (name_cmp x.name) n))
 
 pub noted : (notes : List Note) (bs cs : Name → Option (List ℕ)) (x : Note) (now : ℕ) → IsKept notes bs now → x.from ≤ now → CanChange x.change (files_of notes x.name) → HasBytes x.change → Fits x.change → Becomes x.name (rewritten x.change (bs x.name)) bs cs → IsKept (notes ++ x ∷ []) cs now
 noted notes bs cs x now old from can small fits becomes = record {
@@ -206,16 +222,40 @@ noted notes bs cs x now old from can small fits becomes = record {
       (λ before. let e : get_or (notes ++ x ∷ []) k d ≡ get_or notes k d = get_or_append_left notes (x ∷ []) d k before in rw e (old.past k d before))
       (λ last. let e : get_or (notes ++ x ∷ []) k d ≡ x = get_or_push notes x d k (omega (arith, length-append notes (x ∷ []))) in rw e from)
       (cases_lt k (length notes));
-  sound = λ n g is. ⊎_elim
-      (λ this.
-      let m = found_is x.name n this in
-      sound_changed x.change (files_of notes x.name) can small fits (λ f was. old.sound x.name f was) g (sym new.this ∙ ap (files_of (notes ++ x ∷ [])) (sym m) ∙ is))
-      (λ other. old.sound n g (sym (new.others n (distinct x.name n other)) ∙ is))
-      (cases_Bool (is_at (name_cmp x.name) n));
+  history = record {
+    fits = λ k d lt. ⊎_elim
+        (λ before. let e : get_or (notes ++ x ∷ []) k d ≡ get_or notes k d = get_or_append_left notes (x ∷ []) d k before in rw e (old.history.fits k d before))
+        (λ last. let e : get_or (notes ++ x ∷ []) k d ≡ x = get_or_push notes x d k (omega (arith, length-append notes (x ∷ []))) in rw e (fits_now x.change fits))
+        (cases_lt k (length notes));
+    sound = λ k n g is. ⊎_elim
+        (λ (before : k < length notes + 1). old.history.sound k n g (sym (ap (λ (l : List Note). files_of l n) (take-append-le k notes (x ∷ []) (omega (arith, before)))) ∙ is))
+        (λ (all : length notes + 1 ≤ k). now_sound n g (sym (ap (λ (l : List Note). files_of l n) (take_all k (notes ++ x ∷ []) (omega (arith, all, length-append notes (x ∷ []))))) ∙ is))
+        (cases_lt k (length notes + 1));
+  };
 }
   where
     new : Becomes x.name (changed x.change (files_of notes x.name)) (files_of notes) (files_of (notes ++ x ∷ []))
     new = one_more notes x
+
+    now_sound : (n : Name) (g : File) → files_of (notes ++ x ∷ []) n ≡ Some g → IsSound g
+    now_sound n g is = ⊎_elim
+        (λ this.
+        let m = found_is x.name n this in
+        sound_changed x.change (files_of notes x.name) can small fits (λ f was. sound_now notes old.history x.name f was) g (sym (one_more notes x).this ∙ ap (files_of (notes ++ x ∷ [])) (sym m) ∙ is))
+        (λ other. sound_now notes old.history n g (sym ((one_more notes x).others n (distinct x.name n other)) ∙ is))
+        (cases_Bool (is_at (name_cmp x.name) n))
+
+-- nothing is kept of no files
+pub empty_kept : (notes : List Note) (stored : Name → Option (List ℕ)) (now : ℕ) → notes ≡ [] → ((n : Name) → stored n ≡ None) → IsKept notes stored now
+empty_kept notes stored now empty none = subst (λ (l : List Note). IsKept l stored now) (sym empty) (record {
+  kept = λ n. sym (none n);
+  past = λ k d lt. omega (arith, lt);
+  history = record { fits = λ k d lt. omega (arith, lt); sound = λ k n f is. none_is k n f is };
+})
+  where
+    none_is : (k : ℕ) (n : Name) (f : File) → files_of (take k []) n ≡ Some f → IsSound f
+    none_is zero n f is = cc
+    none_is (suc k) n f is = cc
 
 -- a call that may change one file keeps what holds
 pub stays_kept : {T E : Type 0} (result : Result T E) (notes notes' : List Note) (bs cs : Name → Option (List ℕ)) (x : Note) (now : ℕ) → IsKept notes bs now → x.from ≤ now → CanChange x.change (files_of notes x.name) → HasBytes x.change
@@ -224,7 +264,7 @@ stays_kept (Ok v) notes notes' bs cs x now old from can small ok fits is same is
 stays_kept (Err e) notes notes' bs cs x now old from can small ok fits is same is' = subst (λ (l : List Note). IsKept l cs now) (sym is') (record {
   kept = λ n. old.kept n ∙ sym (same n);
   past = old.past;
-  sound = old.sound;
+  history = old.history;
 })
 
 among_within : (step : File → File) (a b : Option File) → b ≡ a → HasFile a → ((f : File) → a ≡ Some f → IsWithin (step f) f) → Among a (λ f. Among b (λ g. IsWithin (step f) g))
@@ -242,6 +282,10 @@ has_file (Some f) at len there = tt
 pub on_err : {T E P Q : Type 0} (result : Result T E) → (P → Q) → OnErr result P → OnErr result Q
 on_err (Ok v) step p = tt
 on_err (Err e) step p = step p
+
+pub on_ok_too : {T E P : Type 0} (result : Result T E) → P → OnOk result P
+on_ok_too (Ok v) p = p
+on_ok_too (Err e) p = tt
 
 pub on_err_too : {T E P : Type 0} (result : Result T E) → P → OnErr result P
 on_err_too (Ok v) p = tt

@@ -6,20 +6,19 @@ ghost use Rattle.cq_disk.specs.declared.name.Name.{Name};
 ghost use Rattle.cq_disk.specs.File.{File, settled};
 ghost use Rattle.cq_disk.specs.Files.{Becomes, SameFiles};
 ghost use Rattle.cq_disk.specs.Rose.{Rose};
-ghost use Rattle.cq_disk.specs.Call.{Elapses, Caused, StruckBy, BeforeFuse, KeepsPlan};
+ghost use Rattle.cq_disk.specs.Call.{Elapses, Caused, StruckBy, AfterFuse, BeforeFuse, KeepsPlan};
 ghost use Rattle.cq_memdisk.specs.Folder.{bytes_of};
-ghost use Rattle.cq_memdisk.specs.Record.{only_now, each_now, reads_of};
-ghost use Rattle.cq_memdisk.specs.Change.{changed, rewritten, CanChange, CanWrite, HasBytes, Fits, IsSound, files_of, LeftBetween};
+ghost use Rattle.cq_memdisk.specs.Record.{only_now, each_now, reads_of, sound_now};
+ghost use Rattle.cq_memdisk.specs.Change.{changed, rewritten, CanChange, CanWrite, HasBytes, Fits, SoundHistory, files_of, LeftBetween};
 
 use crate::change::{Change, Note};
-use crate::folder;
+use crate::crashable::Crashable;
 use crate::folder::Folder;
+use crate::perform::perform;
+use crate::{folder, replay};
 use cq_disk::{Disk, DiskError, Fault, Name};
 use std::alloc::{AllocError, Global};
 use std::collections::BTreeMap;
-
-/// No file is longer.
-const LONGEST: u64 = 1 << 62;
 
 /// A disk in memory. It keeps the bytes as they read and a record of all changes, and can be made to fail.
 ///
@@ -41,7 +40,7 @@ pub struct MemDisk {
     ghost kept: { (n : Name) → reads_of (files_of notes.items n) ≡ bytes_of files n },
     ghost past: { (k : ℕ) (d : Note) → k < length notes.items → (get_or notes.items k d).from ≤ moment },
     ghost begun: { since ≤ moment },
-    ghost sound: { (n : Name) (f : File) → files_of notes.items n ≡ Some f → IsSound f },
+    ghost history: { SoundHistory notes.items },
 
     // Where no call was made to fail, only refused growths strike, but for the last moment.
     ghost strikes: { fails.items ≡ [] → moment < 2 ^ 64 - 1 → struck ≡ refused },
@@ -92,6 +91,23 @@ impl MemDisk {
         }
     }
 
+    /// Puts a file there, all of it on the disk. It is no call of the device. Where memory is refused nothing changes.
+    pub fn load(&mut self, name: Name, bytes: &[u8]) -> Result<(), AllocError>
+        requires { length bytes.now ≤ 2 ^ 62 }
+        ensures ok { OnOk result (Becomes name (Some (settled bytes.now)) (⟦<MemDisk as Disk>⟧.files self.old) (⟦<MemDisk as Disk>⟧.files self.new)) }
+        ensures err { OnErr result (SameFiles (⟦<MemDisk as Disk>⟧.files self.old) (⟦<MemDisk as Disk>⟧.files self.new)) }
+        ensures moment { self.new.moment ≡ self.old.moment }
+        ensures counts { (self.new.faults ≡ self.old.faults) × (self.new.struck ≡ self.old.struck) × (self.new.refused ≡ self.old.refused) }
+        ensures plan { KeepsPlan self.old.fuse self.old.fails.items self.new.fuse self.new.fails.items }
+    {
+        let note = Note {
+            from: self.moment,
+            name,
+            change: Change::Load(bytes.to_vec(self.alloc)?),
+        };
+        perform(&mut self.files, &mut self.notes, self.alloc, note)
+    }
+
     // Time goes on by one call.
     fn tick(&mut self) -> u64
         ensures value { result ≡ self.old.moment }
@@ -130,6 +146,7 @@ impl MemDisk {
             (LeftBetween self.new.notes.items self.new.since self.new.moment) }
         ensures cause { Caused self.old.faults self.new.faults result }
         ensures strike { StruckBy self.old.fuse self.old.moment self.old.struck self.new.struck result }
+        ensures spent { AfterFuse self.old.fuse self.old.moment self.old.faults self.new.faults self.old.struck self.new.struck (IsErr result) }
         ensures plan { KeepsPlan self.old.fuse self.old.fails.items self.new.fuse self.new.fails.items }
         ensures unfailed { OnOk result ((self.new.faults ≡ self.old.faults) × (self.new.struck ≡ self.old.struck) × (Contains self.old.fails.items self.old.moment → ⊥) × BeforeFuse self.old.fuse self.old.moment) }
         ensures failed { OnErr result (BeforeFuse self.old.fuse self.old.moment → self.old.moment < 2 ^ 64 - 1 → Contains self.old.fails.items self.old.moment) }
@@ -175,6 +192,7 @@ impl MemDisk {
             (LeftBetween self.new.notes.items self.new.since self.new.moment) }
         ensures cause { Caused self.old.faults self.new.faults result }
         ensures strike { StruckBy self.old.fuse self.old.moment self.old.struck self.new.struck result }
+        ensures spent { AfterFuse self.old.fuse self.old.moment self.old.faults self.new.faults self.old.struck self.new.struck (IsErr result) }
         ensures plan { KeepsPlan self.old.fuse self.old.fails.items self.new.fuse self.new.fails.items }
     {
         self.count_call()?;
@@ -193,6 +211,7 @@ impl MemDisk {
             (LeftBetween self.new.notes.items self.new.since self.new.moment) }
         ensures cause { Caused self.old.faults self.new.faults result }
         ensures strike { StruckBy self.old.fuse self.old.moment self.old.struck self.new.struck result }
+        ensures spent { AfterFuse self.old.fuse self.old.moment self.old.faults self.new.faults self.old.struck self.new.struck (IsErr result) }
         ensures plan { KeepsPlan self.old.fuse self.old.fails.items self.new.fuse self.new.fails.items }
     {
         self.count_call()?;
@@ -229,9 +248,9 @@ impl Disk for MemDisk {
 
     ghost now_each = { λ told d t image le is. each_now d.notes.items d.since d.moment t image d.past d.begun le is };
 
-    ghost reads_left = { λ told d name f is. (d.sound name f is).readable };
+    ghost reads_left = { λ told d name f is. (sound_now d.notes.items d.history name f is).readable };
 
-    ghost short = { λ told d name f is. (d.sound name f is).short };
+    ghost short = { λ told d name f is. (sound_now d.notes.items d.history name f is).short };
 
     fn moment(&self) -> u64 {
         self.moment
@@ -292,58 +311,21 @@ impl Disk for MemDisk {
     }
 }
 
-// Makes a change, and notes it.
-fn perform(
-    files: &mut Folder,
-    notes: &mut Vec<Note>,
-    alloc: Global,
-    note: Note,
-) -> Result<(), AllocError>
-    requires { CanWrite note.change (bytes_of files.old note.name) }
-    ensures ok { OnOk result (Becomes note.name (rewritten note.change (bytes_of files.old note.name)) (bytes_of files.old) (bytes_of files.new)) }
-    ensures fits { OnOk result (Fits note.change) }
-    ensures noted { OnOk result (notes.new.items ≡ notes.old.items ++ note ∷ []) }
-    ensures err { OnErr result (SameFiles (bytes_of files.old) (bytes_of files.new)) }
-    ensures not_noted { OnErr result (notes.new.items ≡ notes.old.items) }
-{
-    notes.reserve(1)?;
-    apply(files, alloc, note.name, &note.change)?;
-    match notes.push(note) {
-        Ok(()) => Ok(()),
-        Err(_) => unreachable!(),
-    }
-}
+impl Crashable for MemDisk {
+    ghost told = { tt };
 
-// Makes a change to the bytes.
-fn apply(files: &mut Folder, alloc: Global, name: Name, change: &Change) -> Result<(), AllocError>
-    requires { CanWrite change.now (bytes_of files.old name) }
-    ensures ok { OnOk result (Becomes name (rewritten change.now (bytes_of files.old name)) (bytes_of files.old) (bytes_of files.new)) }
-    ensures fits { OnOk result (Fits change.now) }
-    ensures err { OnErr result (SameFiles (bytes_of files.old) (bytes_of files.new)) }
-{
-    match change {
-        Change::Write(at, bytes) => {
-            let at = *at;
-            if at > LONGEST || bytes.len() as u64 > LONGEST - at {
-                return Err(AllocError);
-            }
-            folder::write(files, name, at, bytes)
-        }
-        Change::Cut(len) => {
-            folder::cut(files, name, *len);
-            Ok(())
-        }
-        Change::Sync => Ok(()),
-        Change::Create => folder::create(files, alloc, name),
-        Change::Remove => {
-            folder::remove(files, name);
-            Ok(())
-        }
-        Change::Load(bytes) => {
-            if bytes.len() as u64 > LONGEST {
-                return Err(AllocError);
-            }
-            folder::load(files, alloc, name, bytes)
-        }
+    fn fuse(&mut self, calls: u64) {
+        self.fuse = Some(self.moment.saturating_add(calls));
+    }
+
+    fn crash(&mut self, n: u64) -> Result<(), AllocError> {
+        let states = replay::replay(self.alloc, &self.notes)?;
+        let names = folder::names(&self.files, self.alloc)?;
+        let (files, notes) = replay::rebuild(self.alloc, &states, names, n, self.moment)?;
+        self.files = files;
+        self.notes = notes;
+        self.since = self.moment;
+        self.fuse = None;
+        Ok(())
     }
 }

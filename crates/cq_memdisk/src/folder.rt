@@ -14,7 +14,7 @@ use std::collections::BTreeMap;
 pub type Folder = BTreeMap<Name, Vec<u8>>;
 
 // Writes over a file's bytes from a place on, and past its end. A refused growth changes nothing.
-fn overwrite(file: &mut Vec<u8>, at: usize, bytes: &[u8]) -> Result<(), AllocError>
+pub(crate) fn overwrite(file: &mut Vec<u8>, at: usize, bytes: &[u8]) -> Result<(), AllocError>
     requires { at ≤ length file.old.items }
     ensures ok { OnOk result (file.new.items ≡ overwritten file.old.items at bytes.now) }
     ensures err { OnErr result (file.new.items ≡ file.old.items) }

@@ -1,10 +1,12 @@
 // The disk in memory, used through its trait.
 ghost use Rattle.std.specs.Prelude.{◌≡◌, None, OnOk, [], ◌∷◌};
 ghost use Rattle.cq_disk.specs.File.{settled};
+ghost use Rattle.cq_disk.specs.declared.name.Kind.TheVariants.{Small};
 ghost use Rattle.cq_disk.specs.Files.{Among};
 
 use super::*;
 use cq_disk::{Disk, Fault, Kind, Name};
+use std::alloc::Global;
 use std::test::Fail;
 
 const NAME: Name = Name {
@@ -74,5 +76,75 @@ fn a_planned_call_fails(rt: HostRuntime) -> Result<(), Fail> {
     assert_eq!(rt; disk.len(NAME), Ok(None));
     assert_eq!(rt; disk.faults(), 1);
     assert_eq!(rt; disk.refused(), 0);
+    Ok(())
+}
+
+// A file with the synced bytes 1 2 3 4, of which 2 was written over with 9, then cut to 3 bytes and written to 5.
+fn pending(disk: &mut MemDisk) -> Result<(), Fault>
+    requires { ⟦<MemDisk as Disk>⟧.files disk.old (record { kind = Small; queue = 0; number = 0 }) ≡ None }
+{
+    disk.create(NAME)?;
+    disk.write(NAME, 0, &[1, 2, 3, 4])?;
+    disk.sync(NAME)?;
+    disk.write(NAME, 1, &[9])?;
+    disk.cut(NAME, 3)?;
+    disk.write(NAME, 3, &[7, 8])
+}
+
+// Whether image n of that file reads so.
+fn reads(alloc: Global, n: u64, bytes: &[u8]) -> bool {
+    let mut disk = MemDisk::new(alloc, Vec::new(alloc));
+    if pending(&mut disk).is_err() || disk.crash(n).is_err() {
+        return false;
+    }
+    disk.bytes(NAME) == Some(bytes)
+}
+
+#[test]
+fn a_crash_leaves_its_image(rt: HostRuntime) -> Result<(), Fail> {
+    let alloc = rt.alloc();
+    assert!(rt; reads(alloc, 0, &[1, 2, 3, 4]));
+    assert!(rt; reads(alloc, 1, &[1, 9, 3, 7, 8]));
+    assert!(rt; reads(alloc, 2, &[1, 0, 3, 0, 0]));
+    assert!(rt; reads(alloc, 57, &[1, 55, 3, 55, 55]));
+    assert!(rt; reads(alloc, 257, &[1, 255, 3, 255, 255]));
+    assert!(rt; reads(alloc, 259, &[1, 9, 3, 7, 8]));
+    assert!(rt; reads(alloc, 258, &[1, 2, 3, 4]));
+    Ok(())
+}
+
+#[test]
+fn past_the_fuse_each_call_fails(rt: HostRuntime) -> Result<(), Fail> {
+    let alloc = rt.alloc();
+    let mut disk = MemDisk::new(alloc, Vec::new(alloc));
+    assert!(rt; disk.load(OTHER, &[5, 6]).is_ok());
+    assert_eq!(rt; disk.moment(), 0);
+    disk.fuse(1);
+    assert_eq!(rt; disk.len(OTHER), Ok(Some(2)));
+    assert_eq!(rt; disk.len(OTHER), Err(Fault));
+    assert_eq!(rt; disk.len(OTHER), Err(Fault));
+    assert_eq!(rt; disk.faults(), 2);
+    assert!(rt; disk.crash(0).is_ok());
+    assert_eq!(rt; disk.len(OTHER), Ok(Some(2)));
+    assert_eq!(rt; (disk.moment(), disk.faults(), disk.refused()), (4, 2, 0));
+    assert_eq!(rt; disk.bytes(OTHER), Some([5, 6].as_slice()));
+    Ok(())
+}
+
+#[test]
+fn an_altered_disk_gives_other_bytes(rt: HostRuntime) -> Result<(), Fail> {
+    let alloc = rt.alloc();
+    let mut inner = MemDisk::new(alloc, Vec::new(alloc));
+    assert!(rt; inner.load(NAME, &[0, 255]).is_ok());
+    assert!(rt; inner.load(OTHER, &[0, 255]).is_ok());
+    let mut disk = Altered::new(inner);
+    let mut got = [9; 2];
+    assert_eq!(rt; disk.read(NAME, 0, &mut got), Ok(()));
+    assert_eq!(rt; got, [1, 0]);
+    assert_eq!(rt; disk.read(OTHER, 0, &mut got), Ok(()));
+    assert_eq!(rt; got, [0, 255]);
+    assert_eq!(rt; disk.read(NAME, 1, &mut got), Err(Fault));
+    assert_eq!(rt; disk.create(NAME), Err(Fault));
+    assert_eq!(rt; (disk.moment(), disk.faults()), (4, 2));
     Ok(())
 }

@@ -1,24 +1,17 @@
 -- The text of a session.
-use Rattle.std.specs.Prelude.{ℕ, zero, suc, ◌+◌, ◌==◌, ◌&&◌, Bool, false, nat_le, if◌then◌else◌, List, [], ◌∷◌, ◌++◌, length, max, codes}
-use Rattle.std.specs.List.{flat_map, list_all}
+use Rattle.std.specs.Prelude.{ℕ, zero, suc, ◌+◌, ◌==◌, Bool, false, nat_le, if◌then◌else◌, List, [], ◌∷◌, ◌++◌, length, max, codes}
+use Rattle.std.specs.List.{flat_map}
 use Rattle.std.specs.Fmt.{decimal}
 use Rattle.hex.specs.Hex.{encode_lower}
 use Rattle.sha2.specs.Sha256.{sha256}
 use Rattle.cq_bytes.specs.Numbers.{contains}
+use Rattle.cq_bytes.specs.Texts.{is_text}
 use Rattle.cq_journal.specs.declared.reply.Reply.{Reply}
 use Rattle.cq_journal.specs.declared.reply.Reply.TheVariants as reply
 use Rattle.cq_journal.specs.declared.event.Event.{Event}
 use Rattle.cq_journal.specs.declared.event.Event.TheVariants as event
 use Rattle.cq_journal.specs.declared.event.Entry.{Entry}
 use Rattle.cq_journal.specs.Asks.{replies, reply_of}
-
--- a byte from 0x21 to 0x7e
-abbrev pub is_visible : ℕ → Bool
-is_visible b = nat_le 33 b && nat_le b 126
-
--- 1 to 64 bytes, each from 0x21 to 0x7e
-abbrev pub is_text : List ℕ → Bool
-is_text body = nat_le 1 (length body) && (nat_le (length body) 64 && list_all is_visible body)
 
 -- a body, as it is shown
 abbrev pub body_text : List ℕ → List ℕ

@@ -1,13 +1,10 @@
 // How a body is shown.
 ghost use Rattle.std.specs.Prelude.{◌≡◌, ◌++◌, IfOk};
-ghost use Rattle.std.specs.List.{list_all};
-ghost use Rattle.cq_print.specs.Text.{body_text, is_text, is_visible};
+ghost use Rattle.cq_print.specs.Text.{body_text};
 
+use cq_bytes::is_text;
 use sha2::{Digest, Sha256};
 use std::alloc::{AllocError, Global};
-
-/// How many bytes are shown as a text.
-const MOST_TEXT: usize = 64;
 
 /// How many bytes are shown in hexadecimal digits.
 const MOST_HEX: usize = 32;
@@ -39,27 +36,4 @@ fn joined(alloc: Global, front: &[u8], back: &[u8]) -> Result<Vec<u8>, AllocErro
     let mut text = front.to_vec(alloc)?;
     text.extend_from_slice(back)?;
     Ok(text)
-}
-
-/// Whether a body is shown as a text: 1 to 64 bytes from 0x21 to 0x7e.
-fn is_text(body: &[u8]) -> bool
-    ensures { result ≡ is_text body.now }
-{
-    if body.is_empty() || body.len() > MOST_TEXT {
-        return false;
-    }
-    all_visible(body)
-}
-
-fn all_visible(body: &[u8]) -> bool
-    ensures { result ≡ list_all is_visible body.now }
-{
-    body.iter().all(|b| is_visible(*b))
-}
-
-/// Whether a byte is from 0x21 to 0x7e.
-fn is_visible(byte: u8) -> bool
-    ensures { result ≡ is_visible byte }
-{
-    33 <= byte && byte <= 126
 }

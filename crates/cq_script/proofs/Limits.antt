@@ -3,7 +3,7 @@ use Rattle.std.proofs.Common.{◌≡◌, ℕ, ◌+◌, ◌<◌, ◌≤◌, Bool,
 use Rattle.std.specs.Prelude.{◌&&◌, ◌||◌, nat_le, nat_lt, codes, is_some, IfOk, Option, take}
 use Rattle.std.specs.List.{AllByRecursion, count_by, list_all}
 use Rattle.std.specs.Str.{bytes_eq}
-use Rattle.std.proofs.lemmas.Bool.{leb-false, leb-true, ltb-false, and_parts}
+use Rattle.std.proofs.lemmas.Bool.{leb-false, ltb-false, and_parts}
 use Rattle.std.proofs.lemmas.List.Sums.{sum_by-append}
 use Rattle.cq_inbox.specs.declared.request.Request.{Request}
 use Rattle.cq_inbox.specs.declared.request.Request.TheVariants.{Publish, Get}
@@ -16,7 +16,9 @@ use Rattle.cq_script.specs.declared.script.ScriptError.{ScriptError}
 use Rattle.cq_script.specs.declared.script.ScriptError.TheVariants as script_error
 use Rattle.cq_script.specs.declared.reading.Reading.{Reading}
 use Rattle.cq_inbox.specs.Requests.{is_publish, publishes}
-use Rattle.cq_script.specs.Words.{is_get, gets, words, script_lines, line_ends, is_text, is_visible, step_of, is_printable, is_spaced}
+use Rattle.cq_bytes.specs.Texts.{is_text}
+use Rattle.cq_bytes.proofs.Texts.{text-parts}
+use Rattle.cq_script.specs.Words.{is_get, gets, words, script_lines, line_ends, step_of, is_printable, is_spaced}
 use Rattle.cq_script.specs.Grammar.{take_client, among_requests, read_get, take_get, text_of, read_body, read_publish, take_publish, after_step, take_steps, with_steps, take_schedule, take_words, read_line, at_line, take_line, take_lines, nothing_read, script_of}
 use Rattle.cq_script.specs.Scripts.{ReadsScript, IsScript, IsServable, IsStream, IsStep, KeepsLimits}
 use Rattle.cq_script.proofs.Sticky.{take_steps-Err, take_lines-Err}
@@ -87,19 +89,13 @@ text-of (k ∷ w ∷ []) t h =
     ap is_text (sym p.1) ∙ (and_parts (bytes_eq k (codes "text")) (is_text w) p.0).1
 text-of (k ∷ w ∷ v ∷ ws) t h = cc
 
-text-length : (t : List ℕ) → is_text t ≡ true → (1 ≤ length t) × (length t ≤ 64)
-text-length t h =
-    let parts = and_parts (nat_le 1 (length t)) (nat_le (length t) 64 && list_all is_visible t) h in
-    let more = and_parts (nat_le (length t) 64) (list_all is_visible t) parts.1 in
-    (leb-true 1 (length t) parts.0, leb-true (length t) 64 more.0)
-
 body-serves : (r s : Reading) (ws : List (List ℕ)) (o : Option (List ℕ)) → text_of ws ≡ o → CanServe r → read_body r o ≡ Ok s → CanServe s
 body-serves r s ws None e c h = cc
 body-serves r s ws (Some t) e c h =
     let f = passed (nat_le 4096 (publishes r.requests)) why.Many _ s h in
     let few : publishes r.requests < 4096 = leb-false 4096 (publishes r.requests) f.0 in
     let p : Request = Publish (0 ∷ []) t in
-    let size = text-length t (text-of ws t e) in
+    let size = text-parts t (text-of ws t e) in
     subst CanServe (same-ok _ (record r { requests = r.requests ++ p ∷ [] }) s refl f.1) (record {
       each = all-push IsServable r.requests p c.each ((omega arith, (omega arith, refl, tt)), (refl, size.0, size.1));
       counted = omega (arith, c.counted, length-append r.requests (p ∷ []), count-push is_publish r.requests p, count-push is_get r.requests p);

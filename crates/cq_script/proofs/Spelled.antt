@@ -19,7 +19,9 @@ use Rattle.cq_script.specs.declared.script.Script.{Script}
 use Rattle.cq_script.specs.declared.script.ScriptError.{ScriptError}
 use Rattle.cq_script.specs.declared.script.ScriptError.TheVariants as script_error
 use Rattle.cq_script.specs.declared.reading.Reading.{Reading}
-use Rattle.cq_script.specs.Words.{gets, words, script_lines, without_last_newline, line_ends, is_text, is_visible, is_printable, is_spaced}
+use Rattle.cq_bytes.specs.Texts.{is_text, is_visible}
+use Rattle.cq_bytes.proofs.Texts.{text-parts}
+use Rattle.cq_script.specs.Words.{gets, words, script_lines, without_last_newline, line_ends, is_printable, is_spaced}
 use Rattle.cq_script.specs.Grammar.{take_steps, with_steps, read_body, read_line, at_line, take_words, take_lines, nothing_read, script_of}
 use Rattle.cq_script.specs.Scripts.{ReadsScript, IsStep}
 use Rattle.cq_script.specs.Spelling.{request_line, step_word, spaced_steps, schedule_lines, spelling, IsSpellable, AreSpellable, schedule_place, ReadsBack}
@@ -86,12 +88,6 @@ lines-back l ls a =
     ap script_lines (text-joined l ls) ∙ cut-last (joined l ls) ∙ ap (slice_split lf) (without-end (joined l ls)) ∙ split-joined l ls a
 
 -- ---- each line is printable
-
-text-parts : (t : List ℕ) → is_text t ≡ true → (nat_le 1 (length t) ≡ true) × (length t ≤ 64) × (list_all is_visible t ≡ true)
-text-parts t h =
-    let parts = and_parts (nat_le 1 (length t)) (nat_le (length t) 64 && list_all is_visible t) h in
-    let more = and_parts (nat_le (length t) 64) (list_all is_visible t) parts.1 in
-    (parts.0, leb-true (length t) 64 more.0, more.1)
 
 request-printable : (r : Request) → IsSpellable r → list_all is_printable (request_line r) ≡ true
 request-printable (Publish queues body) s = visible-printable body (text-parts body s.1).2
@@ -177,8 +173,8 @@ le-false a b h = grind (arith, nat_tests)
 lt-false : (a b : ℕ) → b ≤ a → nat_lt a b ≡ false
 lt-false a b h = grind (arith, nat_tests)
 
-not-empty : (t : List ℕ) → nat_le 1 (length t) ≡ true → (length t == 0) ≡ false
-not-empty t h = let some : 1 ≤ length t = leb-true 1 (length t) h in ne_eqb (length t) 0 (λ e. omega (arith, e))
+not-empty : (t : List ℕ) → 1 ≤ length t → (length t == 0) ≡ false
+not-empty t some = ne_eqb (length t) 0 (λ e. omega (arith, e))
 
 get-read : (n : ℕ) (rs : List Request) → gets rs < 64 → read_line n (requested rs) (codes "get 0") ≡ Ok (requested (rs ++ Get 0 ∷ []))
 get-read n rs few = ap (λ b. cond b (Err why.Many) (Ok (requested (rs ++ Get 0 ∷ [])))) (le-false 64 (gets rs) few)

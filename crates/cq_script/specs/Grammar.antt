@@ -12,7 +12,8 @@ use Rattle.cq_script.specs.declared.reading.LineError.{LineError}
 use Rattle.cq_script.specs.declared.reading.LineError.TheVariants as line_error
 use Rattle.cq_script.specs.declared.reading.Reading.{Reading}
 use Rattle.cq_inbox.specs.Requests.{publishes}
-use Rattle.cq_script.specs.Words.{script_lines, line_ends, words, is_printable, is_spaced, is_text, step_of, gets}
+use Rattle.cq_bytes.specs.Texts.{is_text}
+use Rattle.cq_script.specs.Words.{script_lines, line_ends, words, is_printable, is_spaced, step_of, gets}
 
 -- `client 0`, once
 abbrev pub take_client : Reading → List (List ℕ) → Result Reading Why

@@ -9,7 +9,8 @@ use Rattle.cq_script.specs.declared.script.StepWord.TheVariants.{Client, Turn, W
 use Rattle.cq_script.specs.declared.script.Script.{Script}
 use Rattle.cq_script.specs.declared.script.ScriptError.{ScriptError}
 use Rattle.cq_script.specs.declared.script.ScriptError.TheVariants.{Bad, Memory}
-use Rattle.cq_script.specs.Words.{is_text, gets}
+use Rattle.cq_bytes.specs.Texts.{is_text}
+use Rattle.cq_script.specs.Words.{gets}
 use Rattle.cq_script.specs.Scripts.{IsStep}
 
 -- the line of a request

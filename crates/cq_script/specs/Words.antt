@@ -33,14 +33,6 @@ is_printable b = nat_le 32 b && nat_le b 126
 abbrev pub is_spaced : List (List ℕ) → Bool
 is_spaced ws = list_all (λ w. not (length w == 0)) ws
 
--- a byte from 0x21 to 0x7e
-abbrev pub is_visible : ℕ → Bool
-is_visible b = nat_le 33 b && nat_le b 126
-
--- 1 to 64 bytes, each from 0x21 to 0x7e
-abbrev pub is_text : List ℕ → Bool
-is_text w = nat_le 1 (length w) && (nat_le (length w) 64 && list_all is_visible w)
-
 -- a step of the schedule, by its word
 abbrev pub step_of : List ℕ → Option StepWord
 step_of w =

@@ -2,8 +2,9 @@
 ghost use Rattle.std.specs.Prelude.{◌≡◌, ◌∷◌, [], map, IfOk, OnOk, IfSome};
 
 use crate::stream::Stream;
-use crate::texts::{is_text, publish, step_of};
+use crate::texts::{publish, step_of};
 use crate::{StepWord, Steps, Why};
+use cq_bytes::is_text;
 use cq_inbox::Request;
 use std::alloc::{AllocError, Global};
 

@@ -1,38 +1,11 @@
 // The words of a script that carry a value.
 ghost use Rattle.std.specs.Prelude.{◌≡◌, ◌∷◌, [], ◌≤◌, length, IfOk};
-ghost use Rattle.std.specs.List.{list_all};
-ghost use Rattle.cq_script.specs.Words.{is_text, is_visible, step_of};
+ghost use Rattle.cq_script.specs.Words.{step_of};
 
 use crate::StepWord;
 use cq_bytes::{Body, Queues, QueuesError};
 use cq_inbox::Request;
 use std::alloc::{AllocError, Global};
-
-/// How many bytes a text may have.
-const MOST_TEXT: usize = 64;
-
-/// Whether a word is the text of a body: 1 to 64 bytes from 0x21 to 0x7e.
-pub fn is_text(word: &[u8]) -> bool
-    ensures { result ≡ is_text word.now }
-{
-    if word.is_empty() || word.len() > MOST_TEXT {
-        return false;
-    }
-    all_visible(word)
-}
-
-fn all_visible(word: &[u8]) -> bool
-    ensures { result ≡ list_all is_visible word.now }
-{
-    word.iter().all(|b| is_visible(*b))
-}
-
-/// Whether a byte is from 0x21 to 0x7e.
-fn is_visible(byte: u8) -> bool
-    ensures { result ≡ is_visible byte }
-{
-    33 <= byte && byte <= 126
-}
 
 /// The step that a word of the schedule names.
 pub fn step_of(word: &[u8]) -> Option<StepWord>
