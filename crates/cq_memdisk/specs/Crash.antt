@@ -1,9 +1,10 @@
 -- The images that a crash leaves, by their number.
-use Rattle.std.specs.Prelude.{◌≡◌, ◌≢◌, ℕ, ◌-◌, ◌/◌, ◌%◌, ◌^◌, ◌≤◌, ◌<◌, List, length, slice_index, slice_index_or, Option, None}
+use Rattle.std.specs.Prelude.{◌≡◌, ◌≢◌, ℕ, ◌-◌, ◌/◌, ◌%◌, ◌^◌, ◌≤◌, ◌<◌, List, length, slice_index, slice_index_or, Option, None, ◌↔◌}
 use Rattle.std.specs.Option.{option_map}
 use Rattle.cq_disk.specs.declared.name.Name.{Name}
 use Rattle.cq_disk.specs.File.{File, IsWritten, settled}
 use Rattle.cq_disk.specs.Files.{Among}
+use Rattle.cq_disk.specs.Call.{Image}
 
 -- it has the largest length, and each byte that waits for a sync is this one
 pub record IsFilled (byte : ℕ) (f : File) (c : List ℕ) : Type 0 where
@@ -28,6 +29,10 @@ pub record IsNumbered (n place : ℕ) (f : File) (c : List ℕ) : Type 0 where
 pub record Crashed (n : ℕ) (names : List Name) (old new : Name → Option File) : Type 0 where
   pub each : (k : ℕ) (name : Name) → k < length names → slice_index_or names k name ≡ name → Among (old name) (λ f. Among (new name) (λ g. (g ≡ settled g.reads) × IsNumbered n k f g.reads))
   pub none : (name : Name) → old name ≡ None → new name ≡ None
+
+-- a crash may have left the same
+abbrev pub SameLeft : (ℕ → ℕ → Image → Type 0) → (ℕ → ℕ → Image → Type 0) → Type 0
+SameLeft old new = (t u : ℕ) (image : Image) → old t u image ↔ new t u image
 
 -- the bytes of files as they read
 abbrev pub image_of : (Name → Option File) → Name → Option (List ℕ)

@@ -2,7 +2,7 @@
 ghost use Rattle.std.specs.Prelude.{◌≡◌, ◌+◌, ◌-◌, ◌^◌, ℕ, List, Option, Some, None, min, OnOk, OnErr};
 ghost use Rattle.cq_disk.specs.declared.name.Name.{Name};
 ghost use Rattle.cq_disk.specs.Files.{NamesAre, SameFiles};
-ghost use Rattle.cq_memdisk.specs.Crash.{Crashed, image_of};
+ghost use Rattle.cq_memdisk.specs.Crash.{Crashed, SameLeft, image_of};
 
 use cq_disk::Disk;
 use std::alloc::AllocError;
@@ -13,8 +13,7 @@ pub trait Crashable: Disk {
     fn fuse(&mut self, calls: u64)
         ensures set { Self.fuse self.new ≡ Some (min (Self.moment self.old + calls) (2 ^ 64 - 1)) }
         ensures files { SameFiles (Self.files self.old) (Self.files self.new) }
-        ensures left { (t u : ℕ) (image : Name → Option (List ℕ)) → Self.left self.old t u image → Self.left self.new t u image }
-        ensures no_more { (t u : ℕ) (image : Name → Option (List ℕ)) → Self.left self.new t u image → Self.left self.old t u image }
+        ensures left { SameLeft (Self.left self.old) (Self.left self.new) }
         ensures moment { Self.moment self.new ≡ Self.moment self.old }
         ensures faults { Self.faults self.new ≡ Self.faults self.old }
         ensures struck { Self.struck self.new ≡ Self.struck self.old }
@@ -30,7 +29,7 @@ pub trait Crashable: Disk {
         ensures image { OnOk result ((names : List Name) × NamesAre (Self.files self.old) names × Crashed n names (Self.files self.old) (Self.files self.new)) }
         ensures left { OnOk result (Self.left self.old (Self.moment self.old) (Self.moment self.old) (image_of (Self.files self.new))) }
         ensures fuse { OnOk result (Self.fuse self.new ≡ None) }
-        ensures err { OnErr result ((Self.fuse self.new ≡ Self.fuse self.old) × SameFiles (Self.files self.old) (Self.files self.new)) }
+        ensures err { OnErr result ((Self.fuse self.new ≡ Self.fuse self.old) × SameFiles (Self.files self.old) (Self.files self.new) × SameLeft (Self.left self.old) (Self.left self.new)) }
         ensures moment { Self.moment self.new ≡ Self.moment self.old }
         ensures faults { Self.faults self.new ≡ Self.faults self.old }
         ensures struck { Self.struck self.new ≡ Self.struck self.old }

@@ -1,12 +1,13 @@
 // The disk in memory.
-ghost use Rattle.std.specs.Prelude.{◌≡◌, ◌⊎◌, ◌<◌, ◌≤◌, ◌+◌, ◌-◌, ◌^◌, List, ℕ, Some, None, Option, min, length, get_or, [], ◌∷◌, ◌++◌, Contains, OnOk, OnErr, IsErr, IsTrue, ◌↔◌};
+ghost use Rattle.std.specs.Prelude.{◌≡◌, ◌⊎◌, ◌<◌, ◌≤◌, ◌+◌, ◌-◌, ◌^◌, List, ℕ, Some, None, Option, min, length, get_or, [], ◌∷◌, ◌++◌, Contains, OnOk, OnErr, IsErr, IsErrOf, IfOk, IfSome, IsTrue, ◌↔◌};
 ghost use Rattle.std.specs.Option.{option_map};
 ghost use Rattle.cq_memdisk.specs.declared.change.Note.{Note};
 ghost use Rattle.cq_disk.specs.declared.name.Name.{Name};
-ghost use Rattle.cq_disk.specs.File.{File, settled};
-ghost use Rattle.cq_disk.specs.Files.{Becomes, SameFiles};
+ghost use Rattle.cq_disk.specs.declared.disk.DiskError.TheVariants.{Fault as disk_fault};
+ghost use Rattle.cq_disk.specs.File.{File, settled, wrote, cut_to, synced_now, fresh};
+ghost use Rattle.cq_disk.specs.Files.{Becomes, BecomesOrNot, Changes, ChangesWithin, SameFiles, HasFile, HasRange, LenIs, Reads, NamesAre};
 ghost use Rattle.cq_disk.specs.Rose.{Rose};
-ghost use Rattle.cq_disk.specs.Call.{Elapses, Caused, StruckBy, AfterFuse, BeforeFuse, KeepsPlan};
+ghost use Rattle.cq_disk.specs.Call.{Elapses, Caused, CausedOf, StruckBy, StruckByOf, AfterFuse, BeforeFuse, KeepsPlan};
 ghost use Rattle.cq_memdisk.specs.Folder.{bytes_of};
 ghost use Rattle.cq_memdisk.specs.Record.{only_now, each_now, reads_of, sound_now};
 ghost use Rattle.cq_memdisk.specs.Change.{changed, rewritten, CanChange, CanWrite, HasBytes, Fits, SoundHistory, files_of, LeftBetween};
@@ -44,9 +45,14 @@ pub struct MemDisk {
 
     // Where no call was made to fail, only refused growths strike, but for the last moment.
     ghost strikes: { fails.items ≡ [] → moment < 2 ^ 64 - 1 → struck ≡ refused },
+
+    // A refused growth strikes, and what strikes is a fault.
+    ghost counts: { (refused ≤ struck) × (struck ≤ faults) },
 }
 
 impl MemDisk {
+    ghost use Rattle.cq_memdisk.specs.Counts.{Counted};
+
     /// A disk with no files. The calls whose moment before the call stands in `fails` answer Fault and do nothing.
     pub fn new(alloc: Global, fails: Vec<u64>) -> MemDisk
         ensures files { (n : Name) → ⟦<MemDisk as Disk>⟧.files result n ≡ None }
@@ -73,7 +79,7 @@ impl MemDisk {
 
     /// How many growths this disk was refused. It never falls, and stays at its last value.
     ///
-    /// Where no call was made to fail and the moment is below its last value, these are all faults but those past a fuse.
+    /// Where no call is planned to fail and the moment is below its last value, these are all faults but those past a fuse.
     pub fn refused(&self) -> u64
         ensures value { result ≡ self.now.refused }
         ensures struck { ⟦<MemDisk as Disk>⟧.planned self.now ≡ [] → ⟦<MemDisk as Disk>⟧.moment self.now < 2 ^ 64 - 1 → result ≡ ⟦<MemDisk as Disk>⟧.struck self.now }
@@ -96,9 +102,11 @@ impl MemDisk {
         requires { length bytes.now ≤ 2 ^ 62 }
         ensures ok { OnOk result (Becomes name (Some (settled bytes.now)) (⟦<MemDisk as Disk>⟧.files self.old) (⟦<MemDisk as Disk>⟧.files self.new)) }
         ensures err { OnErr result (SameFiles (⟦<MemDisk as Disk>⟧.files self.old) (⟦<MemDisk as Disk>⟧.files self.new)) }
-        ensures moment { self.new.moment ≡ self.old.moment }
-        ensures counts { (self.new.faults ≡ self.old.faults) × (self.new.struck ≡ self.old.struck) × (self.new.refused ≡ self.old.refused) }
-        ensures plan { KeepsPlan self.old.fuse self.old.fails.items self.new.fuse self.new.fails.items }
+        ensures moment { ⟦<MemDisk as Disk>⟧.moment self.new ≡ ⟦<MemDisk as Disk>⟧.moment self.old }
+        ensures faults { ⟦<MemDisk as Disk>⟧.faults self.new ≡ ⟦<MemDisk as Disk>⟧.faults self.old }
+        ensures struck { ⟦<MemDisk as Disk>⟧.struck self.new ≡ ⟦<MemDisk as Disk>⟧.struck self.old }
+        ensures refused { self.new.refused ≡ self.old.refused }
+        ensures plan { KeepsPlan (⟦<MemDisk as Disk>⟧.fuse self.old) (⟦<MemDisk as Disk>⟧.planned self.old) (⟦<MemDisk as Disk>⟧.fuse self.new) (⟦<MemDisk as Disk>⟧.planned self.new) }
     {
         let note = Note {
             from: self.moment,
@@ -148,7 +156,7 @@ impl MemDisk {
         ensures strike { StruckBy self.old.fuse self.old.moment self.old.struck self.new.struck result }
         ensures spent { AfterFuse self.old.fuse self.old.moment self.old.faults self.new.faults self.old.struck self.new.struck (IsErr result) }
         ensures plan { KeepsPlan self.old.fuse self.old.fails.items self.new.fuse self.new.fails.items }
-        ensures unfailed { OnOk result ((self.new.faults ≡ self.old.faults) × (self.new.struck ≡ self.old.struck) × (Contains self.old.fails.items self.old.moment → ⊥) × BeforeFuse self.old.fuse self.old.moment) }
+        ensures counts { Counted self.old self.new result (IsErr result) }
         ensures failed { OnErr result (BeforeFuse self.old.fuse self.old.moment → self.old.moment < 2 ^ 64 - 1 → Contains self.old.fails.items self.old.moment) }
     {
         let now = self.tick();
@@ -170,12 +178,13 @@ impl MemDisk {
         ensures notes { self.new.notes ≡ self.old.notes }
         ensures since { self.new.since ≡ self.old.since }
         ensures moment { self.new.moment ≡ self.old.moment }
-        ensures faults { Rose self.old.faults self.new.faults }
+        ensures faults { self.new.faults ≡ min (self.old.faults + 1) (2 ^ 64 - 1) }
         ensures faults_later { self.old.faults ≤ self.new.faults }
-        ensures struck { Rose self.old.struck self.new.struck }
+        ensures struck { self.new.struck ≡ min (self.old.struck + 1) (2 ^ 64 - 1) }
         ensures struck_later { self.old.struck ≤ self.new.struck }
-        ensures refused { Rose self.old.refused self.new.refused }
+        ensures refused { self.new.refused ≡ min (self.old.refused + 1) (2 ^ 64 - 1) }
         ensures refused_later { self.old.refused ≤ self.new.refused }
+        ensures saturated { self.new.refused ≡ self.old.refused → (self.new.faults ≡ self.old.faults) × (self.new.struck ≡ self.old.struck) }
         ensures plan { KeepsPlan self.old.fuse self.old.fails.items self.new.fuse self.new.fails.items }
     {
         self.faults = self.faults.saturating_add(1);
@@ -194,6 +203,7 @@ impl MemDisk {
         ensures strike { StruckBy self.old.fuse self.old.moment self.old.struck self.new.struck result }
         ensures spent { AfterFuse self.old.fuse self.old.moment self.old.faults self.new.faults self.old.struck self.new.struck (IsErr result) }
         ensures plan { KeepsPlan self.old.fuse self.old.fails.items self.new.fuse self.new.fails.items }
+        ensures counts { Counted self.old self.new result (IsErr result) }
     {
         self.count_call()?;
         Err(self.refuse())
@@ -213,6 +223,7 @@ impl MemDisk {
         ensures strike { StruckBy self.old.fuse self.old.moment self.old.struck self.new.struck result }
         ensures spent { AfterFuse self.old.fuse self.old.moment self.old.faults self.new.faults self.old.struck self.new.struck (IsErr result) }
         ensures plan { KeepsPlan self.old.fuse self.old.fails.items self.new.fuse self.new.fails.items }
+        ensures counts { Counted self.old self.new result (IsErr result) }
     {
         self.count_call()?;
         let note = Note {
@@ -228,6 +239,8 @@ impl MemDisk {
 }
 
 impl Disk for MemDisk {
+    ghost use Rattle.cq_memdisk.specs.Counts.{Counted};
+
     ghost tells = { Unit {0} };
 
     ghost files = { λ d n. files_of d.notes.items n };
@@ -260,7 +273,17 @@ impl Disk for MemDisk {
         self.faults
     }
 
-    fn list(&mut self, alloc: Global) -> Result<Vec<Name>, DiskError> {
+    fn list(&mut self, alloc: Global) -> Result<Vec<Name>, DiskError>
+        ensures names { IfOk result (λ names. NamesAre (files_of self.old.notes.items) names.items) }
+        ensures files { SameFiles (files_of self.old.notes.items) (files_of self.new.notes.items) }
+        ensures in_time { OnOk result (self.old.moment < 2 ^ 64 - 1) }
+        ensures time { Elapses self.old.moment self.new.moment (LeftBetween self.old.notes.items self.old.since self.old.moment) (LeftBetween self.new.notes.items self.new.since self.new.moment) }
+        ensures cause { CausedOf disk_fault self.old.faults self.new.faults result }
+        ensures strike { StruckByOf disk_fault self.old.fuse self.old.moment self.old.struck self.new.struck result }
+        ensures spent { AfterFuse self.old.fuse self.old.moment self.old.faults self.new.faults self.old.struck self.new.struck (IsErrOf result disk_fault) }
+        ensures plan { KeepsPlan self.old.fuse self.old.fails.items self.new.fuse self.new.fails.items }
+        ensures counts { Counted self.old self.new result (IsErrOf result disk_fault) }
+    {
         if self.count_call().is_err() {
             return Err(DiskError::Fault);
         }
@@ -270,7 +293,18 @@ impl Disk for MemDisk {
         }
     }
 
-    fn len(&mut self, name: Name) -> Result<Option<u64>, Fault> {
+    fn len(&mut self, name: Name) -> Result<Option<u64>, Fault>
+        ensures len { IfOk result (λ len. LenIs (files_of self.old.notes.items name) len) }
+        ensures longest { IfOk result (λ len. IfSome len (λ n. n ≤ 2 ^ 62)) }
+        ensures files { SameFiles (files_of self.old.notes.items) (files_of self.new.notes.items) }
+        ensures in_time { OnOk result (self.old.moment < 2 ^ 64 - 1) }
+        ensures time { Elapses self.old.moment self.new.moment (LeftBetween self.old.notes.items self.old.since self.old.moment) (LeftBetween self.new.notes.items self.new.since self.new.moment) }
+        ensures cause { Caused self.old.faults self.new.faults result }
+        ensures strike { StruckBy self.old.fuse self.old.moment self.old.struck self.new.struck result }
+        ensures spent { AfterFuse self.old.fuse self.old.moment self.old.faults self.new.faults self.old.struck self.new.struck (IsErr result) }
+        ensures plan { KeepsPlan self.old.fuse self.old.fails.items self.new.fuse self.new.fails.items }
+        ensures counts { Counted self.old self.new result (IsErr result) }
+    {
         self.count_call()?;
         match self.files.get(&name) {
             Some(file) => Ok(Some(file.len() as u64)),
@@ -278,7 +312,18 @@ impl Disk for MemDisk {
         }
     }
 
-    fn read(&mut self, name: Name, at: u64, into: &mut [u8]) -> Result<(), Fault> {
+    fn read(&mut self, name: Name, at: u64, into: &mut [u8]) -> Result<(), Fault>
+        requires { HasRange (files_of self.old.notes.items name) at (length into.old) }
+        ensures bytes { OnOk result (Reads (files_of self.old.notes.items name) at into.new) }
+        ensures files { SameFiles (files_of self.old.notes.items) (files_of self.new.notes.items) }
+        ensures in_time { OnOk result (self.old.moment < 2 ^ 64 - 1) }
+        ensures time { Elapses self.old.moment self.new.moment (LeftBetween self.old.notes.items self.old.since self.old.moment) (LeftBetween self.new.notes.items self.new.since self.new.moment) }
+        ensures cause { Caused self.old.faults self.new.faults result }
+        ensures strike { StruckBy self.old.fuse self.old.moment self.old.struck self.new.struck result }
+        ensures spent { AfterFuse self.old.fuse self.old.moment self.old.faults self.new.faults self.old.struck self.new.struck (IsErr result) }
+        ensures plan { KeepsPlan self.old.fuse self.old.fails.items self.new.fuse self.new.fails.items }
+        ensures counts { Counted self.old self.new result (IsErr result) }
+    {
         self.count_call()?;
         if let Some(file) = self.files.get(&name) {
             let start = at as usize;
@@ -287,26 +332,87 @@ impl Disk for MemDisk {
         Ok(())
     }
 
-    fn write(&mut self, name: Name, at: u64, bytes: &[u8]) -> Result<(), Fault> {
+    fn write(&mut self, name: Name, at: u64, bytes: &[u8]) -> Result<(), Fault>
+        requires { HasRange (files_of self.old.notes.items name) at 0 }
+        ensures ok { OnOk result (Changes name (wrote at bytes.now) (files_of self.old.notes.items) (files_of self.new.notes.items)) }
+        ensures fault { OnErr result (ChangesWithin name (wrote at bytes.now) (files_of self.old.notes.items) (files_of self.new.notes.items)) }
+        ensures fits { OnOk result (at + length bytes.now ≤ 2 ^ 62) }
+        ensures in_time { OnOk result (self.old.moment < 2 ^ 64 - 1) }
+        ensures time { Elapses self.old.moment self.new.moment (LeftBetween self.old.notes.items self.old.since self.old.moment) (LeftBetween self.new.notes.items self.new.since self.new.moment) }
+        ensures cause { Caused self.old.faults self.new.faults result }
+        ensures strike { StruckBy self.old.fuse self.old.moment self.old.struck self.new.struck result }
+        ensures spent { AfterFuse self.old.fuse self.old.moment self.old.faults self.new.faults self.old.struck self.new.struck (IsErr result) }
+        ensures plan { KeepsPlan self.old.fuse self.old.fails.items self.new.fuse self.new.fails.items }
+        ensures unchanged { OnErr result (SameFiles (files_of self.old.notes.items) (files_of self.new.notes.items)) }
+        ensures counts { Counted self.old self.new result (IsErr result) }
+    {
         match bytes.to_vec(self.alloc) {
             Ok(bytes) => self.change(name, Change::Write(at, bytes)),
             Err(_) => self.refuse_call(),
         }
     }
 
-    fn sync(&mut self, name: Name) -> Result<(), Fault> {
+    fn sync(&mut self, name: Name) -> Result<(), Fault>
+        requires { HasFile (files_of self.old.notes.items name) }
+        ensures ok { OnOk result (Changes name synced_now (files_of self.old.notes.items) (files_of self.new.notes.items)) }
+        ensures fault { OnErr result (ChangesWithin name (λ f. f) (files_of self.old.notes.items) (files_of self.new.notes.items)) }
+        ensures in_time { OnOk result (self.old.moment < 2 ^ 64 - 1) }
+        ensures time { Elapses self.old.moment self.new.moment (LeftBetween self.old.notes.items self.old.since self.old.moment) (LeftBetween self.new.notes.items self.new.since self.new.moment) }
+        ensures cause { Caused self.old.faults self.new.faults result }
+        ensures strike { StruckBy self.old.fuse self.old.moment self.old.struck self.new.struck result }
+        ensures spent { AfterFuse self.old.fuse self.old.moment self.old.faults self.new.faults self.old.struck self.new.struck (IsErr result) }
+        ensures plan { KeepsPlan self.old.fuse self.old.fails.items self.new.fuse self.new.fails.items }
+        ensures unchanged { OnErr result (SameFiles (files_of self.old.notes.items) (files_of self.new.notes.items)) }
+        ensures counts { Counted self.old self.new result (IsErr result) }
+    {
         self.change(name, Change::Sync)
     }
 
-    fn cut(&mut self, name: Name, len: u64) -> Result<(), Fault> {
+    fn cut(&mut self, name: Name, len: u64) -> Result<(), Fault>
+        requires { HasRange (files_of self.old.notes.items name) len 0 }
+        ensures ok { OnOk result (Changes name (cut_to len) (files_of self.old.notes.items) (files_of self.new.notes.items)) }
+        ensures fault { OnErr result (ChangesWithin name (cut_to len) (files_of self.old.notes.items) (files_of self.new.notes.items)) }
+        ensures in_time { OnOk result (self.old.moment < 2 ^ 64 - 1) }
+        ensures time { Elapses self.old.moment self.new.moment (LeftBetween self.old.notes.items self.old.since self.old.moment) (LeftBetween self.new.notes.items self.new.since self.new.moment) }
+        ensures cause { Caused self.old.faults self.new.faults result }
+        ensures strike { StruckBy self.old.fuse self.old.moment self.old.struck self.new.struck result }
+        ensures spent { AfterFuse self.old.fuse self.old.moment self.old.faults self.new.faults self.old.struck self.new.struck (IsErr result) }
+        ensures plan { KeepsPlan self.old.fuse self.old.fails.items self.new.fuse self.new.fails.items }
+        ensures unchanged { OnErr result (SameFiles (files_of self.old.notes.items) (files_of self.new.notes.items)) }
+        ensures counts { Counted self.old self.new result (IsErr result) }
+    {
         self.change(name, Change::Cut(len))
     }
 
-    fn create(&mut self, name: Name) -> Result<(), Fault> {
+    fn create(&mut self, name: Name) -> Result<(), Fault>
+        requires { files_of self.old.notes.items name ≡ None }
+        ensures ok { OnOk result (Becomes name (Some fresh) (files_of self.old.notes.items) (files_of self.new.notes.items)) }
+        ensures fault { OnErr result (BecomesOrNot name (Some fresh) (files_of self.old.notes.items) (files_of self.new.notes.items)) }
+        ensures in_time { OnOk result (self.old.moment < 2 ^ 64 - 1) }
+        ensures time { Elapses self.old.moment self.new.moment (LeftBetween self.old.notes.items self.old.since self.old.moment) (LeftBetween self.new.notes.items self.new.since self.new.moment) }
+        ensures cause { Caused self.old.faults self.new.faults result }
+        ensures strike { StruckBy self.old.fuse self.old.moment self.old.struck self.new.struck result }
+        ensures spent { AfterFuse self.old.fuse self.old.moment self.old.faults self.new.faults self.old.struck self.new.struck (IsErr result) }
+        ensures plan { KeepsPlan self.old.fuse self.old.fails.items self.new.fuse self.new.fails.items }
+        ensures unchanged { OnErr result (SameFiles (files_of self.old.notes.items) (files_of self.new.notes.items)) }
+        ensures counts { Counted self.old self.new result (IsErr result) }
+    {
         self.change(name, Change::Create)
     }
 
-    fn remove(&mut self, name: Name) -> Result<(), Fault> {
+    fn remove(&mut self, name: Name) -> Result<(), Fault>
+        requires { HasFile (files_of self.old.notes.items name) }
+        ensures ok { OnOk result (Becomes name None (files_of self.old.notes.items) (files_of self.new.notes.items)) }
+        ensures fault { OnErr result (BecomesOrNot name None (files_of self.old.notes.items) (files_of self.new.notes.items)) }
+        ensures in_time { OnOk result (self.old.moment < 2 ^ 64 - 1) }
+        ensures time { Elapses self.old.moment self.new.moment (LeftBetween self.old.notes.items self.old.since self.old.moment) (LeftBetween self.new.notes.items self.new.since self.new.moment) }
+        ensures cause { Caused self.old.faults self.new.faults result }
+        ensures strike { StruckBy self.old.fuse self.old.moment self.old.struck self.new.struck result }
+        ensures spent { AfterFuse self.old.fuse self.old.moment self.old.faults self.new.faults self.old.struck self.new.struck (IsErr result) }
+        ensures plan { KeepsPlan self.old.fuse self.old.fails.items self.new.fuse self.new.fails.items }
+        ensures unchanged { OnErr result (SameFiles (files_of self.old.notes.items) (files_of self.new.notes.items)) }
+        ensures counts { Counted self.old self.new result (IsErr result) }
+    {
         self.change(name, Change::Remove)
     }
 }

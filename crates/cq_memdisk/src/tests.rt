@@ -79,37 +79,49 @@ fn a_planned_call_fails(rt: HostRuntime) -> Result<(), Fail> {
     Ok(())
 }
 
-// A file with the synced bytes 1 2 3 4, of which 2 was written over with 9, then cut to 3 bytes and written to 5.
-fn pending(disk: &mut MemDisk) -> Result<(), Fault>
-    requires { ⟦<MemDisk as Disk>⟧.files disk.old (record { kind = Small; queue = 0; number = 0 }) ≡ None }
-{
-    disk.create(NAME)?;
-    disk.write(NAME, 0, &[1, 2, 3, 4])?;
-    disk.sync(NAME)?;
-    disk.write(NAME, 1, &[9])?;
-    disk.cut(NAME, 3)?;
-    disk.write(NAME, 3, &[7, 8])
+// An index with the synced bytes 5 6, of which 5 was written over with 9; and a small store with the synced bytes
+// 1 2 3 4, of which 2 was written over with 9, then cut to 3 bytes and written to 5.
+fn pending(alloc: Global) -> Result<MemDisk, Fail> {
+    let mut disk = MemDisk::new(alloc, Vec::new(alloc));
+    disk.load(OTHER, &[5, 6])?;
+    disk.load(NAME, &[1, 2, 3, 4])?;
+    let _ = disk.write(OTHER, 0, &[9]);
+    let _ = disk.write(NAME, 1, &[9]);
+    let _ = disk.cut(NAME, 3);
+    let _ = disk.write(NAME, 3, &[7, 8]);
+    Ok(disk)
 }
 
-// Whether image n of that file reads so.
-fn reads(alloc: Global, n: u64, bytes: &[u8]) -> bool {
-    let mut disk = MemDisk::new(alloc, Vec::new(alloc));
-    if pending(&mut disk).is_err() || disk.crash(n).is_err() {
-        return false;
-    }
-    disk.bytes(NAME) == Some(bytes)
-}
+// Images by their number, as the index and the small store read then.
+const IMAGES: [(u64, &[u8], &[u8]); 13] = [
+    (0, &[5, 6], &[1, 2, 3, 4]),
+    (1, &[9, 6], &[1, 9, 3, 7, 8]),
+    (2, &[0, 6], &[1, 0, 3, 0, 0]),
+    (57, &[55, 6], &[1, 55, 3, 55, 55]),
+    (257, &[255, 6], &[1, 255, 3, 255, 255]),
+    (258, &[5, 6], &[1, 2, 3, 4]),
+    (259, &[9, 6], &[1, 2, 3, 4]),
+    (260, &[5, 6], &[1, 9, 3, 7, 8]),
+    (261, &[9, 6], &[1, 9, 3, 7, 8]),
+    (262, &[5, 6], &[1, 2, 3, 4]),
+    (258 + (1 << 32), &[5, 6], &[1, 2, 3, 4]),
+    (259 + (1 << 32), &[9, 6], &[1, 2, 3, 4]),
+    (u64::MAX, &[9, 6], &[1, 2, 3, 4]),
+];
 
 #[test]
 fn a_crash_leaves_its_image(rt: HostRuntime) -> Result<(), Fail> {
     let alloc = rt.alloc();
-    assert!(rt; reads(alloc, 0, &[1, 2, 3, 4]));
-    assert!(rt; reads(alloc, 1, &[1, 9, 3, 7, 8]));
-    assert!(rt; reads(alloc, 2, &[1, 0, 3, 0, 0]));
-    assert!(rt; reads(alloc, 57, &[1, 55, 3, 55, 55]));
-    assert!(rt; reads(alloc, 257, &[1, 255, 3, 255, 255]));
-    assert!(rt; reads(alloc, 259, &[1, 9, 3, 7, 8]));
-    assert!(rt; reads(alloc, 258, &[1, 2, 3, 4]));
+    for (n, index, small) in IMAGES {
+        let mut disk = pending(alloc)?;
+        assert_eq!(rt; disk.moment(), 4);
+        disk.crash(n)?;
+        assert_eq!(rt; disk.bytes(OTHER), Some(index), "image {n}");
+        assert_eq!(rt; disk.bytes(NAME), Some(small), "image {n}");
+        disk.crash(1)?;
+        assert_eq!(rt; disk.bytes(NAME), Some(small), "nothing waits after image {n}");
+        assert_eq!(rt; (disk.moment(), disk.faults()), (4, 0));
+    }
     Ok(())
 }
 

@@ -14,7 +14,7 @@ invariant_of-self c =
     let was : IsKept d.notes.items (bytes_of d.files) d.moment = record { kept = d.kept; past = d.past; history = d.history } in
     let is = stays_kept c.perform.result d.notes.items c.perform.new.notes.items (bytes_of d.files) (bytes_of c.perform.new.files)
     (record { from = d.moment; name = c.args.name; change = c.args.change }) d.moment was (omega arith) can c.requires.bytes e.ok e.fits e.noted e.err e.not_noted in
-    record { kept = is.kept; past = is.past; begun = d.begun; history = is.history; strikes = d.strikes }
+    record { kept = is.kept; past = is.past; begun = d.begun; history = is.history; strikes = d.strikes; counts = d.counts }
 
 pub returns-in-Ok-clause-ok : goal.returns-in-Ok-clause-ok
 returns-in-Ok-clause-ok c =

@@ -4,7 +4,7 @@ use Rattle.cq_disk.specs.Files.{NamesAre}
 use Rattle.cq_memdisk.proofs.disk.MemDiskDisk.list.Goals as goal
 
 pub returns-in-Ok-clause-names : goal.returns-in-Ok-clause-names
-returns-in-Ok-clause-names c = λ told.
+returns-in-Ok-clause-names c =
     let d = c.count_call.new.self in
     let now : NamesAre (files_of d.notes.items) c.in-Ok.names.items = names_are d.files (files_of d.notes.items) c.in-Ok.names.items d.kept c.in-Ok.ensures.ordered c.in-Ok.ensures.names in
     rw c.count_call.ensures.notes at now
