@@ -1,8 +1,8 @@
 -- Entries in any order, seen as a finite map.
-use Rattle.std.proofs.Common.{◌≡◌, ℕ, Bool, true, false, cond, List, [], ◌∷◌, Option, None, Some, refl, sym, ap, ◌∙◌, nat_eq, arith}
+use Rattle.std.proofs.Common.{◌≡◌, ℕ, cond, List, [], ◌∷◌, None, Some, refl, sym, ap, ◌∙◌, nat_eq, arith}
 use Rattle.std.specs.Ordering.{nat_cmp, eq_by_cmp}
 use Rattle.std.specs.Cmp.{nat_cmp_total, unsigned_tied}
-use Rattle.std.specs.FinMap.{FinMap, nat_cmp-IsAntisymmetric, same_map, from_entries, insert, remove, get, find, get-from_entries, get-insert, get-remove}
+use Rattle.std.specs.FinMap.{nat_cmp-IsAntisymmetric, same_map, from_entries, insert, remove, get, find, get-from_entries, get-insert, get-remove}
 use Rattle.std.specs.Map.{lookup}
 use Rattle.std.proofs.lemmas.Bool.Decides.{nat_tests}
 

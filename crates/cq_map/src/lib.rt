@@ -2,7 +2,7 @@
 //! finite map, whatever the order in which it holds its entries.
 #![tactic(auto)]
 
-ghost use Rattle.std.specs.Prelude.{◌≡◌, None, OnOk, OnErr, option_copied};
+ghost use Rattle.std.specs.Prelude.{◌≡◌, None, Some, IsSome, IfOk, OnOk, OnErr, IsPermutation, option_copied};
 ghost use Rattle.std.specs.Ordering.{nat_cmp};
 ghost use Rattle.std.specs.FinMap as map;
 
@@ -56,12 +56,41 @@ impl<V: Drop> NumberMap<V> {
         Ok(())
     }
 
+    /// Puts a value in place of the one at a key that is there, and answers that one. It takes no memory.
+    pub fn replace(&mut self, key: u128, value: V) -> V
+        requires { IsSome (map.get self.old key) }
+        ensures value { map.get self.old key ≡ Some result }
+        ensures rest { self.new ≡ map.insert self.old key value }
+    {
+        match self.entries.insert(key, value) {
+            Ok(Some(old)) => old,
+            Ok(None) => unreachable!(),
+            Err(_) => unreachable!(),
+        }
+    }
+
     /// Takes the value at a key out. `None` exactly where the key isn't there.
     pub fn remove(&mut self, key: u128) -> Option<V>
         ensures value { result ≡ map.get self.old key }
         ensures rest { self.new ≡ map.remove self.old key }
     {
         self.entries.swap_remove(&key)
+    }
+}
+
+impl<V: Copy> NumberMap<V> {
+    /// The keys with their values, in any order.
+    pub fn pairs(&self, alloc: Global) -> Result<Vec<(u128, V)>, AllocError>
+        ensures { IfOk result (λ list. IsPermutation (map.entries self.now) list.items) }
+    {
+        let mut list = Vec::new(alloc);
+        for i in 0..self.entries.len() {
+            let Some((key, value)) = self.entries.get_index(i) else {
+                unreachable!();
+            };
+            list.push((*key, *value))?;
+        }
+        Ok(list)
     }
 }
 

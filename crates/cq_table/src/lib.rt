@@ -1,5 +1,10 @@
-//! Where the records of the shared store stand.
+//! Where the records of the shared store stand, and what its files hold.
 #![tactic(auto)]
+
+mod files;
+mod located;
+
+pub use located::Table;
 
 /// Where a record stands.
 #[derive(Clone, Copy, Debug, PartialEq, Eq)]
@@ -11,3 +16,6 @@ pub struct Place {
     /// The length of its body in bytes; the record has 25 bytes more.
     pub len: u32,
 }
+
+#[cfg(test)]
+mod tests;
