@@ -6,7 +6,7 @@ ghost use Rattle.cq_disk.specs.Files.{Among, IsThere, Becomes, BecomesOrNot, Cha
 ghost use Rattle.cq_disk.specs.Call.{LeavesOnly, Caused, StruckBy, KeepsPlan};
 ghost use Rattle.cq_gate.specs.declared.slot.Slot.{Slot};
 ghost use Rattle.cq_gate.specs.Gated.{IsValid, KeepsOrAdds, Keeps, KeepsOrTakes, PatchedOnly, From, Step};
-ghost use Rattle.cq_gate.specs.Gate.{IsGate, Extends, Settles, Flips, kind_of};
+ghost use Rattle.cq_gate.specs.Gate.{IsGate, Extends, Settles, Flips, kind_of, header_calls};
 
 use crate::gate::Gate;
 use crate::slot::Slot;
@@ -24,6 +24,7 @@ impl Gate {
         // A crash at any moment leaves no file of this name, or an empty one.
         ensures any_moment { D.tells → LeavesOnly D.moment D.left disk.old disk.new (Creates name (D.files disk.old)) }
         ensures cause { Caused (D.faults disk.old) (D.faults disk.new) result }
+        ensures calls { OnOk result (D.moment disk.new ≡ D.moment disk.old + 1) }
         ensures later { D.moment disk.old ≤ D.moment disk.new }
         ensures strike { StruckBy (D.fuse disk.old) (D.moment disk.new) (D.struck disk.old) (D.struck disk.new) result }
         ensures plan { KeepsPlan (D.fuse disk.old) (D.planned disk.old) (D.fuse disk.new) (D.planned disk.new) }
@@ -53,6 +54,7 @@ impl Gate {
         // A crash at any moment leaves the content as it was, or with the bytes.
         ensures any_moment { D.tells → LeavesOnly D.moment D.left disk.old disk.new (OnFile self.old.name (D.files disk.old) (From (D.files disk.old self.old.name) (KeepsOrAdds (kind_of self.old) bytes.now))) }
         ensures cause { Caused (D.faults disk.old) (D.faults disk.new) result }
+        ensures calls { OnOk result (D.moment disk.new ≡ D.moment disk.old + (header_calls self.old.len + 5)) }
         ensures later { D.moment disk.old ≤ D.moment disk.new }
         ensures strike { StruckBy (D.fuse disk.old) (D.moment disk.new) (D.struck disk.old) (D.struck disk.new) result }
         ensures plan { KeepsPlan (D.fuse disk.old) (D.planned disk.old) (D.fuse disk.new) (D.planned disk.new) }
@@ -82,6 +84,7 @@ impl Gate {
         // A crash at any moment leaves the content and the plan as they were.
         ensures any_moment { D.tells → LeavesOnly D.moment D.left disk.old disk.new (OnFile self.old.name (D.files disk.old) (From (D.files disk.old self.old.name) (Keeps (kind_of self.old)))) }
         ensures cause { Caused (D.faults disk.old) (D.faults disk.new) result }
+        ensures calls { OnOk result (D.moment disk.new ≡ D.moment disk.old + 2) }
         ensures later { D.moment disk.old ≤ D.moment disk.new }
         ensures strike { StruckBy (D.fuse disk.old) (D.moment disk.new) (D.struck disk.old) (D.struck disk.new) result }
         ensures plan { KeepsPlan (D.fuse disk.old) (D.planned disk.old) (D.fuse disk.new) (D.planned disk.new) }
@@ -108,6 +111,7 @@ impl Gate {
         // A crash at any moment leaves the content and the plan as they were, or as the slot says.
         ensures any_moment { D.tells → (s : Slot) → self.old.prepared ≡ Some s → LeavesOnly D.moment D.left disk.old disk.new (OnFile self.old.name (D.files disk.old) (From (D.files disk.old self.old.name) (KeepsOrTakes (kind_of self.old) s))) }
         ensures cause { Caused (D.faults disk.old) (D.faults disk.new) result }
+        ensures calls { OnOk result (D.moment disk.new ≡ D.moment disk.old + 2) }
         ensures later { D.moment disk.old ≤ D.moment disk.new }
         ensures strike { StruckBy (D.fuse disk.old) (D.moment disk.new) (D.struck disk.old) (D.struck disk.new) result }
         ensures plan { KeepsPlan (D.fuse disk.old) (D.planned disk.old) (D.fuse disk.new) (D.planned disk.new) }
@@ -137,6 +141,7 @@ impl Gate {
         // A crash at any moment leaves each byte outside the range as it was.
         ensures any_moment { D.tells → LeavesOnly D.moment D.left disk.old disk.new (OnFile self.old.name (D.files disk.old) (From (D.files disk.old self.old.name) (PatchedOnly (kind_of self.old) at (length bytes.now)))) }
         ensures cause { Caused (D.faults disk.old) (D.faults disk.new) result }
+        ensures calls { OnOk result (D.moment disk.new ≡ D.moment disk.old + 1) }
         ensures later { D.moment disk.old ≤ D.moment disk.new }
         ensures strike { StruckBy (D.fuse disk.old) (D.moment disk.new) (D.struck disk.old) (D.struck disk.new) result }
         ensures plan { KeepsPlan (D.fuse disk.old) (D.planned disk.old) (D.fuse disk.new) (D.planned disk.new) }
@@ -155,6 +160,7 @@ impl Gate {
         // A crash at any moment leaves no more than before.
         ensures any_moment { D.tells → LeavesOnly D.moment D.left disk.old disk.new (IsImage (D.files disk.old)) }
         ensures cause { Caused (D.faults disk.old) (D.faults disk.new) result }
+        ensures calls { OnOk result (D.moment disk.new ≡ D.moment disk.old + 1) }
         ensures later { D.moment disk.old ≤ D.moment disk.new }
         ensures strike { StruckBy (D.fuse disk.old) (D.moment disk.new) (D.struck disk.old) (D.struck disk.new) result }
         ensures plan { KeepsPlan (D.fuse disk.old) (D.planned disk.old) (D.fuse disk.new) (D.planned disk.new) }
@@ -170,6 +176,7 @@ impl Gate {
         ensures files { D.tells → SameFiles (D.files disk.old) (D.files disk.new) }
         ensures any_moment { D.tells → LeavesOnly D.moment D.left disk.old disk.new (IsImage (D.files disk.old)) }
         ensures cause { Caused (D.faults disk.old) (D.faults disk.new) result }
+        ensures calls { OnOk result (D.moment disk.new ≡ D.moment disk.old + 1) }
         ensures later { D.moment disk.old ≤ D.moment disk.new }
         ensures strike { StruckBy (D.fuse disk.old) (D.moment disk.new) (D.struck disk.old) (D.struck disk.new) result }
         ensures plan { KeepsPlan (D.fuse disk.old) (D.planned disk.old) (D.fuse disk.new) (D.planned disk.new) }

@@ -18,7 +18,8 @@ use Rattle.cq_small.specs.Record.{small_record}
 use Rattle.cq_node.specs.declared.queue.Spot.{Spot}
 use Rattle.cq_node.specs.Batch.{numbered}
 use Rattle.cq_node.specs.Core.{ids, bodies_of, undecided, IsKept}
-use Rattle.cq_node.specs.Layout.{confirms, confirmed, stored, unstored, records_of, records_end, spots_of, next_spots, IsFirstSpot, IsStoredFirst}
+use Rattle.cq_journal.specs.Confirms.{confirms, confirmed}
+use Rattle.cq_node.specs.Layout.{stored, unstored, records_of, records_end, spots_of, next_spots, IsFirstSpot, IsStoredFirst}
 use Rattle.cq_node.specs.Found.{IsFirstBody}
 use Rattle.cq_node.proofs.Numbered.{At, at, length-numbered, length-bodies_of}
 use Rattle.cq_node.proofs.Laid.{length-spots, length-records, spots_of-drop, spots_of-push, records_of-append, records_of-push, stands, length-record}

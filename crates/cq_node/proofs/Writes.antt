@@ -11,7 +11,8 @@ use Rattle.cq_journal.specs.declared.event.Message.{Message}
 use Rattle.cq_journal.specs.History.{line}
 use Rattle.cq_node.specs.declared.batch.Batch.{Batch}
 use Rattle.cq_node.specs.Batch.{IsBatch, numbered}
-use Rattle.cq_node.specs.Layout.{confirmed, stored, unstored, records_of, records_end, entries_of, AreStored, Joins}
+use Rattle.cq_journal.specs.Confirms.{confirmed}
+use Rattle.cq_node.specs.Layout.{stored, unstored, records_of, records_end, entries_of, AreStored, Joins}
 use Rattle.cq_node.proofs.Laid.{records_of-append, entries_of-append, some-records, length-entries}
 use Rattle.cq_node.proofs.Batches.{length-numbered}
 

@@ -10,7 +10,8 @@ use Rattle.cq_journal.specs.Legal.{Legal, published, delivered, brings, has, is_
 use Rattle.cq_journal.specs.Asks.{asks, replies}
 use Rattle.cq_node.specs.declared.queue.Spot.{Spot}
 use Rattle.cq_node.specs.Answers.{bodiless}
-use Rattle.cq_node.specs.Layout.{confirmed, spots_of}
+use Rattle.cq_journal.specs.Confirms.{confirmed, AddsConfirms}
+use Rattle.cq_node.specs.Layout.{spots_of}
 
 -- the entries, the newest first, for how many more memory is reserved, and the replies, the oldest first
 pub record State : Type 0 where
@@ -72,3 +73,4 @@ pub record IsQuiet (old new : List Entry) : Type 0 where
   pub asked : asks new 0 ≡ asks old 0
   pub published_same : published new 0 ≡ published old 0
   pub lines_same : (q : ℕ) → line new q ≡ line old q
+  pub confirms_alone : AddsConfirms old new

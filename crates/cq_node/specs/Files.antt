@@ -11,6 +11,11 @@ abbrev pub end_of : Option Gate → ℕ
 end_of None = 128
 end_of (Some g) = g.end
 
+-- how many device calls a gated append takes: the file and its header are made where it isn't there
+abbrev pub add_calls : Option Gate → ℕ
+add_calls None = 8
+add_calls (Some g) = 5
+
 -- the gate is this file's, which has a header and no plan
 pub record IsPlain (name : Name) (g : Gate) : Type 0 where
   pub name_is : g.name ≡ name

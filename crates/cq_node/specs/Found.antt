@@ -5,7 +5,8 @@ use Rattle.cq_journal.specs.declared.event.Message.{Message}
 use Rattle.cq_journal.specs.History.{unacked, waiting}
 use Rattle.cq_journal.specs.Legal.{delivered}
 use Rattle.cq_node.specs.Core.{State}
-use Rattle.cq_node.specs.Layout.{confirmed, IsStoredFirst}
+use Rattle.cq_journal.specs.Confirms.{confirmed}
+use Rattle.cq_node.specs.Layout.{IsStoredFirst}
 use Rattle.cq_node.specs.declared.queue.Next.{Next}
 use Rattle.cq_node.specs.declared.queue.Next.TheVariants as next
 

@@ -10,18 +10,7 @@ use Rattle.cq_journal.specs.declared.event.Message.{Message}
 use Rattle.cq_journal.specs.History.{line, waiting}
 use Rattle.cq_held.specs.Held.{index_name, small_name, bytes_in, content_of, StandsAt}
 use Rattle.cq_node.specs.declared.queue.Spot.{Spot}
-use Rattle.cq_journal.specs.declared.event.Event.{Event}
-use Rattle.cq_journal.specs.declared.event.Event.TheVariants.{Confirmed}
-
--- 1 where the event confirms a message
-abbrev pub confirms : Event → ℕ
-confirms (Confirmed client number id) = 1
-confirms _ = 0
-
--- how many messages were confirmed
-abbrev pub confirmed : List Entry → ℕ
-confirmed [] = 0
-confirmed (e ∷ past) = confirmed past + confirms e.event
+use Rattle.cq_journal.specs.Confirms.{confirmed}
 
 -- the records of messages
 abbrev pub records_of : List Message → List ℕ

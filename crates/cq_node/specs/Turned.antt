@@ -38,3 +38,8 @@ Wrote (Err e) old new = new ≡ old
 abbrev pub IsIdle : Result Step NodeError → Type 0
 IsIdle (Ok Idle) = Unit {0}
 IsIdle _ = ⊥
+
+-- the writer has written
+abbrev pub HasDone : Result Step NodeError → Type 0
+HasDone (Ok Did) = Unit {0}
+HasDone _ = ⊥

@@ -1,5 +1,5 @@
 -- The requests of one client that weren't answered.
-use Rattle.std.specs.Prelude.{◌≡◌, ℕ, Bool, true, false, ◌==◌, List, [], ◌∷◌, length, Option, Some, None, is_some}
+use Rattle.std.specs.Prelude.{◌≡◌, ℕ, Bool, true, false, ◌==◌, ◌&&◌, if◌then◌else◌, List, [], ◌∷◌, ◌++◌, length, Option, Some, None, is_some}
 use Rattle.std.specs.List.{list_all}
 use Rattle.cq_inbox.specs.declared.request.Request.{Request}
 use Rattle.cq_inbox.specs.declared.request.Request.TheVariants.{Publish, Get, Ack, End}
@@ -25,6 +25,10 @@ AreServable requests = list_all is_servable requests ≡ true
 pub record Handed : Type 0 where
   pub requests : List Request
   pub kept : Bool
+
+-- 1 where the first was taken from the inbox
+abbrev pub kept_count : Handed → ℕ
+kept_count h = if h.kept then 1 else 0
 
 -- the request that is kept stands before those of the inbox
 abbrev pub behind : Option Request → List Request → List Request

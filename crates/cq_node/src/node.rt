@@ -1,5 +1,5 @@
 // A node over a disk.
-ghost use Rattle.std.specs.Prelude.{◌≡◌, ◌<◌, ◌≤◌, ◌+◌, ◌^◌, ◌∷◌, ◌++◌, [], ℕ, true, false, IfOk, IfErr, OnOk, OnErr, IsErrOf, ◌↔◌, length, map, None};
+ghost use Rattle.std.specs.Prelude.{◌≡◌, ◌<◌, ◌≤◌, ◌+◌, ◌^◌, ◌∷◌, ◌++◌, [], ℕ, true, false, IfOk, IfErr, OnOk, OnErr, IsErrOf, IsOk, ◌↔◌, length, map, None};
 ghost use Rattle.cq_disk.specs.declared.name.Name.{Name};
 ghost use Rattle.cq_disk.specs.Rose.{Rose};
 ghost use Rattle.cq_disk.specs.Call.{CausedOf, StruckByOf, KeepsPlan};
@@ -14,11 +14,11 @@ ghost use Rattle.cq_node.specs.declared.outcome.NodeError.TheVariants.{Fault as 
 ghost use Rattle.cq_node.specs.Answers.{Answers, bodiless};
 ghost use Rattle.cq_held.specs.Held.{as_read, Held};
 ghost use Rattle.cq_node.specs.Core.{IsWhole};
-ghost use Rattle.cq_node.specs.Files.{end_of};
+ghost use Rattle.cq_node.specs.Files.{end_of, add_calls};
 ghost use Rattle.cq_node.specs.Layout.{records_end, AreStored};
 ghost use Rattle.cq_node.specs.Found.{Finds};
-ghost use Rattle.cq_node.specs.Turned.{Turned, Answered, Wrote, IsIdle};
-ghost use Rattle.cq_node.specs.Waiting.{is_servable, AreServable};
+ghost use Rattle.cq_node.specs.Turned.{Turned, Answered, Wrote, IsIdle, HasDone};
+ghost use Rattle.cq_node.specs.Waiting.{is_servable, AreServable, kept_count};
 
 use crate::batch::batch_of;
 use crate::outcome::{NodeError, Step, Turn};
@@ -98,12 +98,14 @@ impl<D: Disk> Node<D> {
         }
     }
 
-    /// Hands in a client's request. It comes back where 64 are in the inbox. It takes no memory.
+    /// Hands in a client's request. It comes back exactly where 64 are in the inbox. It takes no memory.
     pub fn put(&mut self, client: u32, request: Request) -> Result<(), Request>
         requires client { client < self.old.config.clients }
         requires servable { is_servable request ≡ true }
         requires few { publishes (asks self.old.core.entries 0) + publishes self.old.waiting.requests + publishes (request ∷ []) ≤ 4096 }
+        ensures room { IsOk result ↔ (length self.old.waiting.requests < 64 + kept_count self.old.waiting) }
         ensures ok { OnOk result (self.new.waiting.requests ≡ self.old.waiting.requests ++ request ∷ []) }
+        ensures kept { self.new.waiting.kept ≡ self.old.waiting.kept }
         ensures back { IfErr result (λ back. back ≡ request) }
         ensures err { OnErr result (self.new.waiting ≡ self.old.waiting) }
         ensures same { (self.new.core ≡ self.old.core) × (self.new.store ≡ self.old.store) × (self.new.config ≡ self.old.config) }
@@ -117,6 +119,7 @@ impl<D: Disk> Node<D> {
         requires client { client < self.old.config.clients }
         ensures turned { Turned result self.old.core.entries self.new.core.entries self.old.waiting.requests self.new.waiting.requests }
         ensures legal { Legal self.new.core.entries }
+        ensures none_kept { OnOk result (self.new.waiting.kept ≡ false) }
         ensures config { self.new.config ≡ self.old.config }
         ensures stopped { IsErrOf result NodeError.Stopped ↔ (self.old.store.halted ≡ true) }
         ensures halts { IsErrOf result NodeError.Fault → self.new.store.halted ≡ true }
@@ -150,6 +153,7 @@ impl<D: Disk> Node<D> {
         requires few { publishes (asks self.old.core.entries 0) + publishes self.old.waiting.requests < 4096 }
         ensures turned { Turned result self.old.core.entries self.new.core.entries (Request.Publish queues body ∷ self.old.waiting.requests) self.new.waiting.requests }
         ensures legal { Legal self.new.core.entries }
+        ensures none_kept { OnOk result (self.new.waiting.kept ≡ false) }
         ensures config { self.new.config ≡ self.old.config }
         ensures memory { OnErr result (result ≡ Err NodeError.Memory) }
         ensures store { self.new.store ≡ self.old.store }
@@ -171,6 +175,7 @@ impl<D: Disk> Node<D> {
         requires taken { self.old.waiting.kept ≡ false }
         ensures turned { Turned result self.old.core.entries self.new.core.entries (Request.Get 0 ∷ self.old.waiting.requests) self.new.waiting.requests }
         ensures legal { Legal self.new.core.entries }
+        ensures none_kept { OnOk result (self.new.waiting.kept ≡ false) }
         ensures config { self.new.config ≡ self.old.config }
         ensures no_stop { IsErrOf result NodeError.Stopped → ⊥ }
         ensures halts { IsErrOf result NodeError.Fault → self.new.store.halted ≡ true }
@@ -263,6 +268,7 @@ impl<D: Disk> Node<D> {
         ensures wrote { Wrote result self.old.core.entries self.new.core.entries }
         ensures idle { IsIdle result → AreConfirmed self.new.core.entries × (self.new.store ≡ self.old.store) }
         ensures held { IsIdle result → D.tells → Held (as_read (D.files self.new.store.disk)) (line self.new.core.entries) }
+        ensures calls { HasDone result → D.moment self.new.store.disk ≡ D.moment self.old.store.disk + (add_calls self.old.store.small + add_calls self.old.store.index) }
         ensures waiting { self.new.waiting ≡ self.old.waiting }
         ensures legal { Legal self.new.core.entries }
         ensures config { self.new.config ≡ self.old.config }

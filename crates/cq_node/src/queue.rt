@@ -69,7 +69,8 @@ impl Core {
     ghost use Rattle.cq_node.specs.Found.{Finds, HoldsFirst, IsFirstBody};
     ghost use Rattle.cq_node.specs.Core.{undecided, bodies_of, Confirms, IsQuiet, IsWhole};
     ghost use Rattle.cq_node.specs.Batch.{numbered};
-    ghost use Rattle.cq_node.specs.Layout.{confirmed, next_spots, IsFirstSpot, stored, unstored};
+    ghost use Rattle.cq_journal.specs.Confirms.{confirmed};
+    ghost use Rattle.cq_node.specs.Layout.{next_spots, IsFirstSpot, stored, unstored};
 
     /// A core whose folder held no message. The opening is its one entry, with this stamp.
     pub fn open(alloc: Global, stamp: u64) -> Result<Core, AllocError>

@@ -3,9 +3,9 @@ ghost use Rattle.std.specs.Prelude.{◌≡◌, ◌≢◌, ◌<◌, ◌≤◌, �
 ghost use Rattle.cq_disk.specs.declared.name.Name.{Name};
 ghost use Rattle.cq_disk.specs.Files.{IsThere, SameFiles};
 ghost use Rattle.cq_disk.specs.Call.{Caused, StruckBy, KeepsPlan};
-ghost use Rattle.cq_gate.specs.Gate.{IsGate};
+ghost use Rattle.cq_gate.specs.Gate.{IsGate, header_calls};
 ghost use Rattle.cq_held.specs.Held.{small_name, index_name};
-ghost use Rattle.cq_node.specs.Files.{end_of, IsFile, IsPlain};
+ghost use Rattle.cq_node.specs.Files.{end_of, add_calls, IsFile, IsPlain};
 ghost use Rattle.cq_node.specs.Layout.{content_in, Joins};
 
 use cq_disk::{Disk, Fault, Kind, Name};
@@ -74,6 +74,7 @@ impl<D: Disk> Store<D> {
         ensures ok { OnOk result ((self.new.halted ≡ false) × (end_of self.new.small ≡ end_of self.old.small + length records.now)) }
         ensures files { OnOk result (D.tells → Joins records.now entries.now (D.files self.old.disk) (D.files self.new.disk)) }
         ensures err { OnErr result (self.new.halted ≡ true) }
+        ensures calls { OnOk result (D.moment self.new.disk ≡ D.moment self.old.disk + (add_calls self.old.small + add_calls self.old.index)) }
         ensures later { D.moment self.old.disk ≤ D.moment self.new.disk }
         ensures cause { Caused (D.faults self.old.disk) (D.faults self.new.disk) result }
         ensures strike { StruckBy (D.fuse self.old.disk) (D.moment self.new.disk) (D.struck self.old.disk) (D.struck self.new.disk) result }
@@ -97,6 +98,7 @@ impl<D: Disk> Store<D> {
         ensures bytes { OnOk result (D.tells → into.new ≡ take (length into.new) (drop (place - 124) (content_in (D.files self.old.disk (small_name 0 0))))) }
         ensures files { D.tells → SameFiles (D.files self.old.disk) (D.files self.new.disk) }
         ensures err { OnErr result (self.new.halted ≡ true) }
+        ensures calls { OnOk result (D.moment self.new.disk ≡ D.moment self.old.disk + 1) }
         ensures later { D.moment self.old.disk ≤ D.moment self.new.disk }
         ensures cause { Caused (D.faults self.old.disk) (D.faults self.new.disk) result }
         ensures strike { StruckBy (D.fuse self.old.disk) (D.moment self.new.disk) (D.struck self.old.disk) (D.struck self.new.disk) result }
@@ -123,6 +125,7 @@ fn add<D: Disk>(disk: &mut D, gate: Option<Gate>, name: Name, bytes: &[u8]) -> R
     ensures file { IfOk result (λ g. IsFile D.tells name (Some g) (D.files disk.new name)) }
     ensures content { OnOk result (D.tells → content_in (D.files disk.new name) ≡ content_in (D.files disk.old name) ++ bytes.now) }
     ensures others { D.tells → (n : Name) → n ≢ name → D.files disk.new n ≡ D.files disk.old n }
+    ensures calls { OnOk result (D.moment disk.new ≡ D.moment disk.old + add_calls gate) }
     ensures later { D.moment disk.old ≤ D.moment disk.new }
     ensures cause { Caused (D.faults disk.old) (D.faults disk.new) result }
     ensures strike { StruckBy (D.fuse disk.old) (D.moment disk.new) (D.struck disk.old) (D.struck disk.new) result }
@@ -150,6 +153,7 @@ fn extend<D: Disk>(disk: &mut D, mut gate: Gate, name: Name, bytes: &[u8]) -> Re
     ensures gate { IfOk result (λ g. D.tells → IsThere (D.files disk.new name) (IsGate g)) }
     ensures content { OnOk result (D.tells → content_in (D.files disk.new name) ≡ content_in (D.files disk.old name) ++ bytes.now) }
     ensures others { D.tells → (n : Name) → n ≢ name → D.files disk.new n ≡ D.files disk.old n }
+    ensures calls { OnOk result (D.moment disk.new ≡ D.moment disk.old + (header_calls gate.len + 5)) }
     ensures later { D.moment disk.old ≤ D.moment disk.new }
     ensures cause { Caused (D.faults disk.old) (D.faults disk.new) result }
     ensures strike { StruckBy (D.fuse disk.old) (D.moment disk.new) (D.struck disk.old) (D.struck disk.new) result }

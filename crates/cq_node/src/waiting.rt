@@ -1,7 +1,7 @@
 // The requests that one client has handed in and that weren't answered.
-ghost use Rattle.std.specs.Prelude.{◌≡◌, ◌<◌, ◌≤◌, ◌++◌, ◌∷◌, [], List, length, true, false, IfOk, IfErr, IfSome, OnOk, OnErr, replicate};
+ghost use Rattle.std.specs.Prelude.{◌≡◌, ◌<◌, ◌≤◌, ◌+◌, ◌++◌, ◌∷◌, ◌↔◌, IsOk, [], List, length, true, false, IfOk, IfErr, IfSome, OnOk, OnErr, replicate};
 ghost use Rattle.cq_inbox.specs.Inbox.{HandsOut, held_of};
-ghost use Rattle.cq_node.specs.Waiting.{is_servable, AreServable};
+ghost use Rattle.cq_node.specs.Waiting.{is_servable, AreServable, kept_count};
 
 use cq_inbox::{Inbox, PlainInbox, Request};
 use std::marker::Model;
@@ -37,7 +37,9 @@ impl Waiting {
     /// Adds a request. It comes back where 64 are in the inbox.
     pub fn put(&mut self, request: Request) -> Result<(), Request>
         requires { is_servable request ≡ true }
+        ensures room { IsOk result ↔ (length self.old.requests < 64 + kept_count self.old) }
         ensures ok { OnOk result (self.new.requests ≡ self.old.requests ++ request ∷ []) }
+        ensures kept { self.new.kept ≡ self.old.kept }
         ensures back { IfErr result (λ back. back ≡ request) }
         ensures err { OnErr result (self.new ≡ self.old) }
     {

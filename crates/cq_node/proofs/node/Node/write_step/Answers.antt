@@ -80,3 +80,6 @@ pub invariant_of-self-3-clause-few : goal.invariant_of-self-3-clause-few
 invariant_of-self-3-clause-few g c =
     let same : publishes (asks c.confirm_all.new.self.entries 0) ≡ publishes (asks c.args.self.now.core.entries 0) = ap publishes (c.confirm_all.ensures.quiet.asked ∙ ap (λ l. asks l 0) c.reserve.ensures.entries) in
     omega (arith, same, c.args.self.now.few)
+
+pub returns-clause-calls : goal.returns-clause-calls
+returns-clause-calls g c = λ done. no_error c.commit-written.result (sym c.is_err-2.ensures.value ∙ c.if-is_err-2.false) c.commit-written.ensures.calls

@@ -1,4 +1,4 @@
-use Rattle.std.proofs.Common.{◌≡◌, ◌≤◌, ◌+◌, ◌∷◌, get_or, drop, length, refl, sym, ap, ◌∙◌, subst, arith, append-nil}
+use Rattle.std.proofs.Common.{◌≡◌, ◌≤◌, ◌+◌, ◌∷◌, [], get_or, drop, length, refl, sym, ap, ◌∙◌, subst, arith, append-nil}
 use Rattle.std.proofs.lemmas.List.{drop_more, drop-drop}
 use Rattle.cq_journal.specs.Asks.{asks}
 use Rattle.cq_journal.specs.History.{line}
@@ -7,7 +7,8 @@ use Rattle.cq_journal.specs.declared.event.Entry.{Entry}
 use Rattle.cq_journal.specs.declared.event.Event.TheVariants.{Confirmed}
 use Rattle.cq_node.specs.declared.queue.Spot.{Spot}
 use Rattle.cq_node.specs.Core.{undecided, IsQuiet}
-use Rattle.cq_node.specs.Layout.{confirmed, unstored, records_end, IsFirstSpot}
+use Rattle.cq_journal.specs.Confirms.{confirmed}
+use Rattle.cq_node.specs.Layout.{unstored, records_end, IsFirstSpot}
 use Rattle.cq_node.proofs.Batches.{length-numbered}
 use Rattle.cq_node.proofs.Laid.{length-spots}
 use Rattle.cq_node.proofs.queue.Core.confirm_all.Goals as goal
@@ -21,7 +22,7 @@ loop-spot-init c =
     record {
       left = omega (arith, count);
       reserved = omega (arith, c.requires.reserved);
-      quiet = record { asked = refl; published_same = refl; lines_same = λ q. refl };
+      quiet = record { asked = refl; published_same = refl; lines_same = λ q. refl; confirms_alone = record { added = []; is = refl; each = tt } };
       later = c.requires.later;
       rest = sym c.requires.places;
       whole = λ w. w;
@@ -38,7 +39,7 @@ loop-spot-preserved c =
     let so_far = c.loop-spot.invariant in
     let next : Entry = record { event = Confirmed 0 (confirmed old) (confirmed old + 1); stamp = c.args.stamp } in
     let is : c.confirm.new.self.entries ≡ next ∷ old = c.confirm.ensures.confirms in
-    let step : IsQuiet old (next ∷ old) = record { asked = append-nil (asks old 0); published_same = omega arith; lines_same = λ q. append-nil (line old q) } in
+    let step : IsQuiet old (next ∷ old) = record { asked = append-nil (asks old 0); published_same = omega arith; lines_same = λ q. append-nil (line old q); confirms_alone = record { added = next ∷ []; is = refl; each = (refl, tt) } } in
     let quiet : IsQuiet old c.confirm.new.self.entries = subst (IsQuiet old) (sym is) step in
     record {
       left = omega (arith, so_far.left, c.confirm.ensures.left);
@@ -47,6 +48,11 @@ loop-spot-preserved c =
         asked = quiet.asked ∙ so_far.quiet.asked;
         published_same = quiet.published_same ∙ so_far.quiet.published_same;
         lines_same = λ q. quiet.lines_same q ∙ so_far.quiet.lines_same q;
+        confirms_alone = record {
+          added = next ∷ so_far.quiet.confirms_alone.added;
+          is = is ∙ ap (λ l. next ∷ l) so_far.quiet.confirms_alone.is;
+          each = (refl, so_far.quiet.confirms_alone.each);
+        };
       };
       later = subst (λ l. newest l ≤ c.args.stamp) (sym is) (omega arith);
       rest = c.confirm.ensures.rest ∙ ap (drop 1) so_far.rest ∙ drop-drop 1 c.loop-spot.spot-index c.args.spots.now;

@@ -8,7 +8,8 @@ use Rattle.cq_node.proofs.Steps.{kept-delivered, kept_at}
 use Rattle.cq_journal.specs.Asks.{replies}
 use Rattle.cq_journal.specs.declared.reply.Reply.TheVariants as reply
 use Rattle.cq_node.specs.Found.{IsFirstBody}
-use Rattle.cq_node.specs.Layout.{confirmed, stored}
+use Rattle.cq_journal.specs.Confirms.{confirmed}
+use Rattle.cq_node.specs.Layout.{stored}
 use Rattle.cq_node.specs.contracts.queue.Core.{the_view}
 use Rattle.cq_node.proofs.Found.{quiet_stored, first_is}
 use Rattle.cq_node.proofs.queue.Core.deliver.Goals as goal

@@ -7,7 +7,8 @@ use Rattle.cq_node.specs.Core.{State, IsWhole}
 use Rattle.cq_node.proofs.Steps.{kept-empty, kept_at}
 use Rattle.cq_journal.specs.Asks.{replies}
 use Rattle.cq_journal.specs.declared.reply.Reply.TheVariants as reply
-use Rattle.cq_node.specs.Layout.{confirmed, stored}
+use Rattle.cq_journal.specs.Confirms.{confirmed}
+use Rattle.cq_node.specs.Layout.{stored}
 use Rattle.cq_node.specs.contracts.queue.Core.{the_view}
 use Rattle.cq_node.proofs.Found.{quiet_stored}
 use Rattle.cq_node.proofs.queue.Core.empty.Goals as goal

@@ -1,7 +1,8 @@
 use Rattle.std.proofs.Common.{◌≡◌, ◌+◌, length, sym, subst}
 use Rattle.cq_node.specs.Batch.{numbered}
 use Rattle.cq_node.specs.Core.{State, undecided}
-use Rattle.cq_node.specs.Layout.{confirmed, unstored}
+use Rattle.cq_journal.specs.Confirms.{confirmed}
+use Rattle.cq_node.specs.Layout.{unstored}
 use Rattle.cq_node.proofs.Found.{undecided_is, held_messages}
 use Rattle.cq_node.proofs.queue.Core.undecided.Goals as goal
 
