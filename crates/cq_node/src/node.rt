@@ -80,7 +80,7 @@ impl<D: Disk> Node<D> {
         requires servable { AreServable (held_of inbox 0) }
         requires few { publishes (held_of inbox 0) ≤ 4096 }
         ensures opened { IfOk result (λ node. node.core.entries ≡ (record { event = Opened []; stamp = D.moment disk }) ∷ []) }
-        ensures requests { IfOk result (λ node. node.waiting.requests ≡ held_of inbox 0) }
+        ensures requests { IfOk result (λ node. node.waiting ≡ record { requests = held_of inbox 0; kept = false }) }
         ensures disk { IfOk result (λ node. (node.store.disk ≡ disk) × (node.store.halted ≡ false)) }
         ensures config { IfOk result (λ node. node.config ≡ config) }
         ensures refused { IfErr result (λ back. (back.disk ≡ disk) × (back.inbox ≡ inbox)) }

@@ -1,3 +1,5 @@
 pub mod InputLaws
 pub mod Endings
 pub mod Servable
+pub mod Moves
+pub mod WordLaws

@@ -1,4 +1,5 @@
 pub mod Words
+pub mod Done
 pub mod Input
 pub mod Played
 pub mod Outcomes

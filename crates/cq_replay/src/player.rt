@@ -1,11 +1,16 @@
 // One client that is served by a node, step by step.
-ghost use Rattle.std.specs.Prelude.{◌≡◌, ◌<◌, ◌≤◌, ◌+◌, ◌++◌, true, false, OnOk, OnErr, IsErrOf, reverse, vec_len};
+ghost use Rattle.std.specs.Prelude.{◌≡◌, ◌<◌, ◌≤◌, ◌+◌, ◌++◌, ◌∷◌, [], true, false, length, OnOk, OnErr, IsErrOf, reverse, vec_len, vec_capacity};
 ghost use Rattle.std.specs.List.{list_all};
 ghost use Rattle.cq_disk.specs.Call.{CausedOf, StruckByOf, KeepsPlan};
 ghost use Rattle.cq_inbox.specs.Requests.{publishes};
 ghost use Rattle.cq_journal.specs.Asks.{asks};
 ghost use Rattle.cq_node.specs.declared.outcome.NodeError.TheVariants.{Fault as node_fault};
-ghost use Rattle.cq_node.specs.Turned.{Wrote};
+ghost use Rattle.cq_held.specs.Held.{as_read, Held};
+ghost use Rattle.cq_journal.specs.Confirms.{AreConfirmed};
+ghost use Rattle.cq_journal.specs.History.{line};
+ghost use Rattle.cq_node.specs.Turned.{Turned, Wrote, IsIdle, HasDone};
+ghost use Rattle.cq_replay.specs.Done.{DoesWords};
+ghost use Rattle.cq_replay.specs.Running.{MovesOn, WordDid, IsFresh, demand, hands};
 ghost use Rattle.cq_node.specs.Waiting.{is_servable};
 
 use cq_disk::Disk;
@@ -31,6 +36,13 @@ impl<D: Disk> Player<D> {
     /// Serves the words of a schedule, and then all that is left.
     pub fn serve(&mut self, words: &[StepWord]) -> Result<(), NodeError>
         requires open { self.old.node.store.halted ≡ false }
+        requires fresh { IsFresh (D.moment self.old.node.store.disk) self.old.node.core.entries self.old.node.waiting self.old.after.items }
+        ensures moves { MovesOn self.old.node.core.entries self.new.node.core.entries self.old.node.waiting self.new.node.waiting self.old.rest.items self.new.rest.items }
+        ensures finished { OnOk result ((self.new.node.waiting.requests ≡ []) × (self.new.rest.items ≡ [])) }
+        ensures confirmed { OnOk result (AreConfirmed self.new.node.core.entries) }
+        ensures held { OnOk result (D.tells → Held (as_read (D.files self.new.node.store.disk)) (line self.new.node.core.entries)) }
+        ensures done { DoesWords (length self.old.rest.items) self.new.node.core.entries words.now self.new.after.items }
+        ensures all_words { OnOk result (length self.new.after.items ≡ length words.now) }
         ensures goes_on { OnOk result (self.new.node.store.halted ≡ false) }
         ensures no_stop { IsErrOf result NodeError.Stopped → ⊥ }
         ensures later { D.moment self.old.node.store.disk ≤ D.moment self.new.node.store.disk }
@@ -39,15 +51,50 @@ impl<D: Disk> Player<D> {
         ensures plan { KeepsPlan (D.fuse self.old.node.store.disk) (D.planned self.old.node.store.disk) (D.fuse self.new.node.store.disk) (D.planned self.new.node.store.disk) }
     {
         let total = self.rest.len();
+        if self.after.reserve(words.len()).is_err() {
+            return Err(NodeError::Memory);
+        }
         for word in words {
             self.step(*word)?;
         }
         self.finish(total)
     }
 
-    /// Does one word of the schedule, and records the state after it.
+    /// Does one word of the schedule, and records where the session stands then.
     fn step(&mut self, word: StepWord) -> Result<(), NodeError>
         requires open { self.old.node.store.halted ≡ false }
+        requires none_kept { self.old.node.waiting.kept ≡ false }
+        requires room { vec_len self.old.after < vec_capacity self.old.after }
+        ensures moves { MovesOn self.old.node.core.entries self.new.node.core.entries self.old.node.waiting self.new.node.waiting self.old.rest.items self.new.rest.items }
+        ensures none_kept { OnOk result (self.new.node.waiting.kept ≡ false) }
+        ensures capacity { vec_capacity self.new.after ≡ vec_capacity self.old.after }
+        ensures after { OnErr result (self.new.after.items ≡ self.old.after.items) }
+        ensures pushed { OnOk result (self.new.after.items ≡ self.old.after.items ++ record { entries = length self.new.node.core.entries; moment = D.moment self.new.node.store.disk } ∷ []) }
+        ensures did { OnOk result (WordDid (length (demand self.old.node.core.entries self.old.node.waiting self.old.rest.items)) word self.old.node.core.entries self.new.node.core.entries self.old.node.waiting self.new.node.waiting (D.moment self.old.node.store.disk) (D.moment self.new.node.store.disk)) }
+        ensures goes_on { OnOk result (self.new.node.store.halted ≡ false) }
+        ensures no_stop { IsErrOf result NodeError.Stopped → ⊥ }
+        ensures later { D.moment self.old.node.store.disk ≤ D.moment self.new.node.store.disk }
+        ensures cause { CausedOf node_fault (D.faults self.old.node.store.disk) (D.faults self.new.node.store.disk) result }
+        ensures strike { StruckByOf node_fault (D.fuse self.old.node.store.disk) (D.moment self.new.node.store.disk) (D.struck self.old.node.store.disk) (D.struck self.new.node.store.disk) result }
+        ensures plan { KeepsPlan (D.fuse self.old.node.store.disk) (D.planned self.old.node.store.disk) (D.fuse self.new.node.store.disk) (D.planned self.new.node.store.disk) }
+    {
+        self.do_word(word)?;
+        let after = After {
+            entries: self.node.journal().entries().len() as u64,
+            moment: self.node.moment(),
+        };
+        self.after.push_reserved(after);
+        Ok(())
+    }
+
+    /// Does one word of the schedule.
+    fn do_word(&mut self, word: StepWord) -> Result<(), NodeError>
+        requires open { self.old.node.store.halted ≡ false }
+        requires none_kept { self.old.node.waiting.kept ≡ false }
+        ensures moves { MovesOn self.old.node.core.entries self.new.node.core.entries self.old.node.waiting self.new.node.waiting self.old.rest.items self.new.rest.items }
+        ensures none_kept { OnOk result (self.new.node.waiting.kept ≡ false) }
+        ensures after { self.new.after ≡ self.old.after }
+        ensures did { OnOk result (WordDid (length (demand self.old.node.core.entries self.old.node.waiting self.old.rest.items)) word self.old.node.core.entries self.new.node.core.entries self.old.node.waiting self.new.node.waiting (D.moment self.old.node.store.disk) (D.moment self.new.node.store.disk)) }
         ensures goes_on { OnOk result (self.new.node.store.halted ≡ false) }
         ensures no_stop { IsErrOf result NodeError.Stopped → ⊥ }
         ensures later { D.moment self.old.node.store.disk ≤ D.moment self.new.node.store.disk }
@@ -56,28 +103,30 @@ impl<D: Disk> Player<D> {
         ensures plan { KeepsPlan (D.fuse self.old.node.store.disk) (D.planned self.old.node.store.disk) (D.fuse self.new.node.store.disk) (D.planned self.new.node.store.disk) }
     {
         match word {
-            StepWord::Client(_) => self.hand_in(),
+            StepWord::Client(_) => {
+                self.hand_in();
+                Ok(())
+            }
             StepWord::Turn(_) => {
                 let _ = self.turn()?;
+                Ok(())
             }
             StepWord::Write => {
                 let _ = self.write()?;
+                Ok(())
             }
-        }
-        let after = After {
-            entries: self.node.journal().entries().len() as u64,
-            moment: self.node.moment(),
-        };
-        match self.after.push(after) {
-            Ok(()) => Ok(()),
-            Err(_) => Err(NodeError::Memory),
         }
     }
 
     /// Hands in the next request, where there is one and the lane isn't full.
     fn hand_in(&mut self)
+        requires none_kept { self.old.node.waiting.kept ≡ false }
         ensures store { self.new.node.store ≡ self.old.node.store }
         ensures core { self.new.node.core ≡ self.old.node.core }
+        ensures moved { self.new.node.waiting.requests ++ self.new.rest.items ≡ self.old.node.waiting.requests ++ self.old.rest.items }
+        ensures one { length self.new.node.waiting.requests ≡ length self.old.node.waiting.requests + hands (length self.old.rest.items) (length self.old.node.waiting.requests) }
+        ensures none_kept { self.new.node.waiting.kept ≡ false }
+        ensures after { self.new.after ≡ self.old.after }
     {
         let Some(request) = self.rest.pop_front() else {
             return;
@@ -90,6 +139,11 @@ impl<D: Disk> Player<D> {
     /// A turn of the client.
     fn turn(&mut self) -> Result<Turn, NodeError>
         requires open { self.old.node.store.halted ≡ false }
+        requires none_kept { self.old.node.waiting.kept ≡ false }
+        ensures turned { Turned result self.old.node.core.entries self.new.node.core.entries self.old.node.waiting.requests self.new.node.waiting.requests }
+        ensures rest { self.new.rest ≡ self.old.rest }
+        ensures none_kept { OnOk result (self.new.node.waiting.kept ≡ false) }
+        ensures after { self.new.after ≡ self.old.after }
         ensures goes_on { OnOk result (self.new.node.store.halted ≡ false) }
         ensures no_stop { IsErrOf result NodeError.Stopped → ⊥ }
         ensures later { D.moment self.old.node.store.disk ≤ D.moment self.new.node.store.disk }
@@ -103,7 +157,13 @@ impl<D: Disk> Player<D> {
     /// A step of the writer.
     fn write(&mut self) -> Result<Step, NodeError>
         requires open { self.old.node.store.halted ≡ false }
+        requires none_kept { self.old.node.waiting.kept ≡ false }
         ensures wrote { Wrote result self.old.node.core.entries self.new.node.core.entries }
+        ensures same { (self.new.node.waiting ≡ self.old.node.waiting) × (self.new.rest ≡ self.old.rest) }
+        ensures idle { IsIdle result → AreConfirmed self.new.node.core.entries }
+        ensures held { IsIdle result → D.tells → Held (as_read (D.files self.new.node.store.disk)) (line self.new.node.core.entries) }
+        ensures calls { HasDone result → D.moment self.old.node.store.disk < D.moment self.new.node.store.disk }
+        ensures after { self.new.after ≡ self.old.after }
         ensures goes_on { OnOk result (self.new.node.store.halted ≡ false) }
         ensures no_stop { IsErrOf result NodeError.Stopped → ⊥ }
         ensures later { D.moment self.old.node.store.disk ≤ D.moment self.new.node.store.disk }
@@ -117,6 +177,13 @@ impl<D: Disk> Player<D> {
     /// Serves all that is left of so many requests, and writes until nothing is left to write.
     fn finish(&mut self, total: usize) -> Result<(), NodeError>
         requires open { self.old.node.store.halted ≡ false }
+        requires none_kept { self.old.node.waiting.kept ≡ false }
+        requires total { length (demand self.old.node.core.entries self.old.node.waiting self.old.rest.items) ≡ total }
+        ensures moves { MovesOn self.old.node.core.entries self.new.node.core.entries self.old.node.waiting self.new.node.waiting self.old.rest.items self.new.rest.items }
+        ensures after { self.new.after ≡ self.old.after }
+        ensures finished { OnOk result ((self.new.node.waiting.requests ≡ []) × (self.new.rest.items ≡ [])) }
+        ensures confirmed { OnOk result (AreConfirmed self.new.node.core.entries) }
+        ensures held { OnOk result (D.tells → Held (as_read (D.files self.new.node.store.disk)) (line self.new.node.core.entries)) }
         ensures goes_on { OnOk result (self.new.node.store.halted ≡ false) }
         ensures no_stop { IsErrOf result NodeError.Stopped → ⊥ }
         ensures later { D.moment self.old.node.store.disk ≤ D.moment self.new.node.store.disk }
@@ -134,6 +201,12 @@ impl<D: Disk> Player<D> {
     /// Answers one request that is left, and makes one write step.
     fn round(&mut self) -> Result<(), NodeError>
         requires open { self.old.node.store.halted ≡ false }
+        requires none_kept { self.old.node.waiting.kept ≡ false }
+        requires left { 0 < length self.old.node.waiting.requests + length self.old.rest.items }
+        ensures moves { MovesOn self.old.node.core.entries self.new.node.core.entries self.old.node.waiting self.new.node.waiting self.old.rest.items self.new.rest.items }
+        ensures none_kept { OnOk result (self.new.node.waiting.kept ≡ false) }
+        ensures after { self.new.after ≡ self.old.after }
+        ensures fewer { OnOk result (length self.old.node.waiting.requests + length self.old.rest.items ≡ length self.new.node.waiting.requests + length self.new.rest.items + 1) }
         ensures goes_on { OnOk result (self.new.node.store.halted ≡ false) }
         ensures no_stop { IsErrOf result NodeError.Stopped → ⊥ }
         ensures later { D.moment self.old.node.store.disk ≤ D.moment self.new.node.store.disk }
@@ -149,6 +222,12 @@ impl<D: Disk> Player<D> {
     /// Answers one request that is left.
     fn answer_one(&mut self) -> Result<(), NodeError>
         requires open { self.old.node.store.halted ≡ false }
+        requires none_kept { self.old.node.waiting.kept ≡ false }
+        requires left { 0 < length self.old.node.waiting.requests + length self.old.rest.items }
+        ensures moves { MovesOn self.old.node.core.entries self.new.node.core.entries self.old.node.waiting self.new.node.waiting self.old.rest.items self.new.rest.items }
+        ensures none_kept { OnOk result (self.new.node.waiting.kept ≡ false) }
+        ensures after { self.new.after ≡ self.old.after }
+        ensures fewer { OnOk result (length self.old.node.waiting.requests + length self.old.rest.items ≡ length self.new.node.waiting.requests + length self.new.rest.items + 1) }
         ensures goes_on { OnOk result (self.new.node.store.halted ≡ false) }
         ensures no_stop { IsErrOf result NodeError.Stopped → ⊥ }
         ensures later { D.moment self.old.node.store.disk ≤ D.moment self.new.node.store.disk }
@@ -169,6 +248,12 @@ impl<D: Disk> Player<D> {
     /// Makes write steps until nothing is left to write.
     fn write_all(&mut self) -> Result<(), NodeError>
         requires open { self.old.node.store.halted ≡ false }
+        requires none_kept { self.old.node.waiting.kept ≡ false }
+        ensures moves { MovesOn self.old.node.core.entries self.new.node.core.entries self.old.node.waiting self.new.node.waiting self.old.rest.items self.new.rest.items }
+        ensures same { (self.new.node.waiting ≡ self.old.node.waiting) × (self.new.rest ≡ self.old.rest) }
+        ensures confirmed { OnOk result (AreConfirmed self.new.node.core.entries) }
+        ensures held { OnOk result (D.tells → Held (as_read (D.files self.new.node.store.disk)) (line self.new.node.core.entries)) }
+        ensures after { self.new.after ≡ self.old.after }
         ensures goes_on { OnOk result (self.new.node.store.halted ≡ false) }
         ensures no_stop { IsErrOf result NodeError.Stopped → ⊥ }
         ensures later { D.moment self.old.node.store.disk ≤ D.moment self.new.node.store.disk }

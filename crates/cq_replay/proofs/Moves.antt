@@ -1,0 +1,101 @@
+-- How the entries and the client's requests move on.
+use Rattle.std.proofs.Common.{◌≡◌, ℕ, ◌+◌, ◌<◌, ◌≤◌, List, [], ◌∷◌, ◌++◌, length, Result, Ok, Err, refl, sym, ap, ◌∙◌, subst, arith, append_assoc, append-nil, length-append, Bool, true, false, cond, Option}
+use Rattle.std.specs.Prelude.{◌==◌, map}
+use Rattle.std.proofs.lemmas.List.{length-map}
+use Rattle.cq_journal.specs.declared.event.Event.{Event}
+use Rattle.cq_journal.specs.declared.event.Event.TheVariants as event
+use Rattle.cq_journal.specs.declared.reply.Reply.{Reply}
+use Rattle.cq_node.specs.Answers.{bodiless}
+use Rattle.cq_inbox.specs.declared.request.Request.{Request}
+use Rattle.cq_journal.specs.declared.event.Entry.{Entry}
+use Rattle.cq_journal.specs.Asks.{ask, asks, own, reply_of, replies}
+use Rattle.cq_node.specs.declared.outcome.NodeError.{NodeError}
+use Rattle.cq_node.specs.declared.outcome.Step.{Step}
+use Rattle.cq_node.specs.declared.outcome.Step.TheVariants.{Did, Idle}
+use Rattle.cq_node.specs.declared.outcome.Turn.{Turn}
+use Rattle.cq_node.specs.declared.outcome.Turn.TheVariants.{Moved, Done}
+use Rattle.cq_node.specs.Turned.{Turned, Moves, Wrote}
+use Rattle.cq_node.specs.Waiting.{Handed}
+use Rattle.cq_disk.specs.Call.{CausedOf, StruckByOf, KeepsPlan}
+use Rattle.cq_replay.specs.Running.{GoesOn, MovesOn, demand}
+
+-- nothing has moved
+pub stays : (old new : List Entry) (w w' : Handed) (rest rest' : List Request) → new ≡ old → w'.requests ++ rest' ≡ w.requests ++ rest → MovesOn old new w w' rest rest'
+stays old new w w' rest rest' same left = record {
+  added = [];
+  is = same;
+  same = append_assoc (asks new 0) w'.requests rest' ∙ ap (λ l. asks new 0 ++ l) left ∙ ap (λ l. asks l 0 ++ (w.requests ++ rest)) same ∙ sym (append_assoc (asks old 0) w.requests rest);
+}
+
+-- an entry that answers the oldest request
+pub asked_one : (old new : List Entry) (before after : List Request) (m : Moves old new before after) → asks new 0 ≡ asks old 0 ++ m.request ∷ []
+asked_one old new before after m = ap (λ l. asks l 0) m.answers.added ∙ ap (λ l. asks old 0 ++ l) m.answers.asked
+
+pub turned : (result : Result Turn NodeError) (old new : List Entry) (w w' : Handed) (rest rest' : List Request) → Turned result old new w.requests w'.requests → rest' ≡ rest → MovesOn old new w w' rest rest'
+turned (Ok Moved) old new w w' rest rest' m same = record {
+  added = m.answers.entry ∷ [];
+  is = m.answers.added;
+  same =
+      ap (λ l. asks new 0 ++ w'.requests ++ l) same ∙ ap (λ l. l ++ w'.requests ++ rest) (asked_one old new w.requests w'.requests m)
+      ∙ ap (λ l. l ++ rest) (append_assoc (asks old 0) (m.request ∷ []) w'.requests ∙ ap (λ l. asks old 0 ++ l) (sym m.oldest));
+}
+turned (Ok Done) old new w w' rest rest' (is, before, after) same = stays old new w w' rest rest' is (ap (λ l. l ++ rest') (after ∙ sym before) ∙ ap (λ l. w.requests ++ l) same)
+turned (Err e) old new w w' rest rest' (is, waits) same = stays old new w w' rest rest' is (ap (λ l. l ++ rest') waits ∙ ap (λ l. w.requests ++ l) same)
+
+pub wrote : (result : Result Step NodeError) (old new : List Entry) (w w' : Handed) (rest rest' : List Request) → Wrote result old new → w' ≡ w → rest' ≡ rest → MovesOn old new w w' rest rest'
+wrote (Ok Did) old new w w' rest rest' (some, none, quiet) same also = record {
+  added = quiet.confirms_alone.added;
+  is = quiet.confirms_alone.is;
+  same = ap (λ l. l ++ w'.requests ++ rest') quiet.asked ∙ ap (λ (v : Handed). asks old 0 ++ v.requests ++ rest') same ∙ ap (λ l. asks old 0 ++ w.requests ++ l) also;
+}
+wrote (Ok Idle) old new w w' rest rest' (is, none) same also = stays old new w w' rest rest' is (ap (λ (v : Handed). v.requests ++ rest') same ∙ ap (λ l. w.requests ++ l) also)
+wrote (Err e) old new w w' rest rest' is same also = stays old new w w' rest rest' is (ap (λ (v : Handed). v.requests ++ rest') same ∙ ap (λ l. w.requests ++ l) also)
+
+-- one after another
+pub then : (a b c : List Entry) (u v w : Handed) (p q r : List Request) → MovesOn a b u v p q → MovesOn b c v w q r → MovesOn a c u w p r
+then a b c u v w p q r first second = record {
+  added = second.added ++ first.added;
+  is = second.is ∙ ap (λ l. second.added ++ l) first.is ∙ sym (append_assoc second.added first.added a);
+  same = second.same ∙ first.same;
+}
+
+-- how many requests there are
+pub length-demand : (journal : List Entry) (w : Handed) (rest : List Request) → length (demand journal w rest) ≡ length (asks journal 0) + length w.requests + length rest
+length-demand journal w rest = length-append (asks journal 0 ++ w.requests) rest ∙ ap (λ n. n + length rest) (length-append (asks journal 0) w.requests)
+
+-- each request that was answered has its reply
+pub length-replies : (journal : List Entry) (c : ℕ) → length (replies journal c) ≡ length (asks journal c)
+length-replies [] c = refl
+length-replies (e ∷ past) c = length-append (replies past c) (reply_of past c e.event) ∙ omega (arith, length-replies past c, one e.event, length-append (asks past c) (ask c e.event))
+  where
+    owned : {A B : Type 0} (client c : ℕ) (x : A) (y : B) → length (own client c x) ≡ length (own client c y)
+    owned client c x y = elim (client == c) as (λ b. length (cond b (x ∷ []) []) ≡ length (cond b (y ∷ []) [])) [ true ↦ refl | false ↦ refl ]
+
+    one : (event : Event) → length (reply_of past c event) ≡ length (ask c event)
+    one (event.Published client number id queues body) = owned client c _ _
+    one (event.Delivered client number queue id) = owned client c _ _
+    one (event.Empty client queue) = owned client c _ _
+    one (event.Busy client queue) = owned client c _ _
+    one (event.Acked client number) = owned client c _ _
+    one (event.Unknown client number) = owned client c _ _
+    one (event.Ended client) = owned client c _ _
+    one (event.Opened lines) = refl
+    one (event.Dropped client number) = refl
+    one (event.Confirmed client number id) = refl
+    one (event.Settled queue id) = refl
+
+-- the same of what a node says
+pub length-told : (told : List Reply) (journal : List Entry) (c : ℕ) → map bodiless told ≡ map bodiless (replies journal c) → length told ≡ length (asks journal c)
+length-told told journal c same = sym (length-map told bodiless) ∙ ap length same ∙ length-map (replies journal c) bodiless ∙ length-replies journal c
+
+-- a run that goes on by one step more
+pub goes_next : {E T : Type 0} (fault : E) (result : Result T E) (h h' : Bool) (m0 m m' f0 f f' s0 s s' : ℕ) (u0 u u' : Option ℕ) (p0 p p' : List ℕ) → GoesOn h m0 m f0 f s0 s u0 u p0 p
+    → h' ≡ false → m ≤ m' → CausedOf fault f f' result → StruckByOf fault u m' s s' result → KeepsPlan u p u' p' → GoesOn h' m0 m' f0 f' s0 s' u0 u' p0 p'
+goes_next fault result h h' m0 m m' f0 f f' s0 s s' u0 u u' p0 p p' so_far running later cause strike plan = record {
+  running = running;
+  later = omega (arith, so_far.later, later);
+  faults_later = omega (arith, so_far.faults_later, cause.later);
+  struck_later = omega (arith, so_far.struck_later, strike.later);
+  same_fuse = plan.fuse ∙ so_far.same_fuse;
+  same_plan = plan.planned ∙ so_far.same_plan;
+}
