@@ -1,5 +1,5 @@
 -- How the entries and the client's requests move on.
-use Rattle.std.proofs.Common.{◌≡◌, ℕ, ◌+◌, ◌<◌, ◌≤◌, List, [], ◌∷◌, ◌++◌, length, Result, Ok, Err, refl, sym, ap, ◌∙◌, subst, arith, append_assoc, append-nil, length-append, Bool, true, false, cond, Option}
+use Rattle.std.proofs.Common.{◌≡◌, ℕ, ◌+◌, ◌<◌, ◌≤◌, List, [], ◌∷◌, ◌++◌, length, Result, Ok, Err, OnOk, refl, sym, ap, ◌∙◌, subst, arith, append_assoc, append-nil, length-append, Bool, true, false, cond, Option}
 use Rattle.std.specs.Prelude.{◌==◌, map}
 use Rattle.std.proofs.lemmas.List.{length-map}
 use Rattle.cq_journal.specs.declared.event.Event.{Event}
@@ -17,7 +17,8 @@ use Rattle.cq_node.specs.declared.outcome.Turn.TheVariants.{Moved, Done}
 use Rattle.cq_node.specs.Turned.{Turned, Moves, Wrote}
 use Rattle.cq_node.specs.Waiting.{Handed}
 use Rattle.cq_disk.specs.Call.{CausedOf, StruckByOf, KeepsPlan}
-use Rattle.cq_replay.specs.Running.{GoesOn, MovesOn, demand}
+use Rattle.cq_journal.specs.declared.session.After.{After}
+use Rattle.cq_replay.specs.Running.{GoesOn, MovesOn, IsFresh, demand}
 
 -- nothing has moved
 pub stays : (old new : List Entry) (w w' : Handed) (rest rest' : List Request) → new ≡ old → w'.requests ++ rest' ≡ w.requests ++ rest → MovesOn old new w w' rest rest'
@@ -99,3 +100,11 @@ goes_next fault result h h' m0 m m' f0 f f' s0 s s' u0 u u' p0 p p' so_far runni
   same_fuse = plan.fuse ∙ so_far.same_fuse;
   same_plan = plan.planned ∙ so_far.same_plan;
 }
+
+pub ok_too : {T E P : Type 0} (result : Result T E) → P → OnOk result P
+ok_too (Ok v) p = p
+ok_too (Err e) p = tt
+
+-- what a session that has only begun has to serve
+pub demand_fresh : (m : ℕ) (journal : List Entry) (w : Handed) (after : List After) (rest : List Request) → IsFresh m journal w after → demand journal w rest ≡ rest
+demand_fresh m journal w after rest fresh = ap (λ l. asks l 0 ++ w.requests ++ rest) fresh.opened ∙ ap (λ (v : Handed). v.requests ++ rest) fresh.none_waits

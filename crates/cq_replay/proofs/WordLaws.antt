@@ -20,7 +20,7 @@ use Rattle.cq_node.specs.Waiting.{Handed}
 use Rattle.cq_script.specs.declared.script.StepWord.{StepWord}
 use Rattle.cq_script.specs.declared.script.StepWord.TheVariants.{Client, Turn as turn_word, Write}
 use Rattle.cq_replay.specs.Done.{DoesWords, Standing, first_entries, answered, at_start, handed_after, standing, one_waits, Did as did_word, IsDone, AreDone}
-use Rattle.cq_replay.specs.Running.{WordDid, HasServed, MovesOn, stands, demand, hands}
+use Rattle.cq_replay.specs.Running.{WordDid, HasServed, MovesOn, IsFresh, stands, demand, hands}
 use Rattle.cq_replay.proofs.Moves.{asked_one, length-demand}
 
 -- the first entries of a journal that goes on
@@ -186,3 +186,7 @@ does total i words old new added w m after after' some grown so_far le same =
           (subst (λ l. AreDone total new (reverse (take i words)) (reverse l)) (sym same)
           (subst (λ l. AreDone total l (reverse (take i words)) (reverse after)) (sym grown) (done_grows total added old some (reverse (take i words)) (reverse after) so_far.done)));
     }
+
+-- no word was done at the start
+pub none_done : (total m : ℕ) (words : List StepWord) (journal : List Entry) (w : Handed) (after after' : List After) → IsFresh m journal w after → after' ≡ after → HasServed total 0 words journal w m after'
+none_done total m words journal w after after' fresh same = rw (same, fresh.none_done, fresh.opened, fresh.none_waits) (record { count_is = refl; done = tt; now = refl })
