@@ -1,8 +1,7 @@
 -- How a session ends, by what its steps answered.
-use Rattle.std.proofs.Common.{◌≡◌, ◌≢◌, ℕ, ◌≤◌, refl, Option, Result, Ok, Err}
+use Rattle.std.proofs.Common.{◌≡◌, ◌≢◌, ℕ, refl, Option, Result, Err}
 use Rattle.std.specs.Prelude.{IsErrOf}
-use Rattle.cq_disk.specs.Rose.{Rose}
-use Rattle.cq_disk.specs.Call.{BeforeFuse, CausedOf, StruckByOf}
+use Rattle.cq_disk.specs.Call.{CausedOf, StruckByOf}
 use Rattle.cq_node.specs.declared.outcome.NodeError.{NodeError}
 use Rattle.cq_node.specs.declared.outcome.NodeError.TheVariants.{Fault, Memory, Stopped}
 use Rattle.cq_replay.specs.declared.playing.Ending.{Ending}

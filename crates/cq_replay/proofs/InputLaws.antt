@@ -1,12 +1,11 @@
 -- What the bytes that were read say of the input.
-use Rattle.std.proofs.Common.{◌≡◌, ℕ, ◌<◌, ◌≤◌, ◌+◌, cond, List, length, ◌++◌, None, Some, Result, Ok, Err, refl, ap, ◌∙◌, sym, subst, arith, inl, inr, ⊎_elim, length-append}
+use Rattle.std.proofs.Common.{◌≡◌, ℕ, ◌<◌, ◌≤◌, ◌+◌, cond, List, [], ◌∷◌, length, None, Some, Ok, Err, refl, ap, ◌∙◌, sym, subst, arith, inl, inr, ⊎_elim, length-append}
 use Rattle.std.specs.Prelude.{IfSome, take}
 use Rattle.std.proofs.lemmas.Bool.{lt-ltb}
 use Rattle.std.proofs.lemmas.Bool.Decides.{leb_tells}
 use Rattle.std.specs.declared.option.Option.{Option}
 use Rattle.std.specs.Io.KnownBytes.{Consumes, IsAtEnd}
 use Rattle.std.proofs.KnownBytes.{Consumes-trans, Consumes-whole}
-use Rattle.cq_script.specs.declared.reading.Reading.{Reading}
 use Rattle.cq_script.specs.declared.script.Why.{Why}
 use Rattle.cq_script.specs.declared.script.Why.TheVariants as why
 use Rattle.cq_script.specs.declared.script.ScriptError.{ScriptError}
@@ -16,7 +15,11 @@ use Rattle.cq_script.specs.Grammar.{take_lines, nothing_read, script_of}
 use Rattle.cq_script.specs.Scripts.{ReadsScript}
 use Rattle.cq_io.specs.declared.status.Status.TheVariants as status
 use Rattle.cq_replay.specs.Input.{IsJudged, GrewBy}
-use Rattle.cq_replay.specs.Outcomes.{IsOfForm, AgreesWithInput}
+use Rattle.cq_inbox.specs.declared.request.Request.{Request}
+use Rattle.cq_journal.specs.declared.session.Session.{Session}
+use Rattle.cq_script.specs.declared.script.Script.{Script}
+use Rattle.cq_replay.specs.Played.{FirstServesAll}
+use Rattle.cq_replay.specs.Outcomes.{IsOfForm, AgreesWithInput, SaysScript, ServesAllOf}
 
 pub judged-end : (a b : Option (List ℕ)) (bytes : List ℕ) → Consumes a b bytes → IsAtEnd b → IfSome a (IsJudged bytes)
 judged-end a b bytes read end = Consumes-whole a b bytes (IsJudged bytes) read end (inl refl)
@@ -57,3 +60,20 @@ pub judged-bad : (left : Option (List ℕ)) (bytes seen : List ℕ) → seen ≡
 judged-bad None bytes seen same judged error n w is read = tt
 judged-bad (Some input) bytes seen same (inl whole) error n w is read = λ form. unread seen error n w is read (subst IsOfForm (whole ∙ sym same) form)
 judged-bad (Some input) bytes seen same (inr long) error n w is read = λ form. long-isnt input long.1 form
+
+-- the input says what was read
+pub judged-says : (left : Option (List ℕ)) (bytes seen : List ℕ) → seen ≡ bytes → IfSome left (IsJudged bytes) → (script : Script) → ReadsScript (Ok script) (script_of seen) → IfSome left (SaysScript script)
+judged-says None bytes seen same judged script read = tt
+judged-says (Some input) bytes seen same (inl whole) script (reading, said, is) = (reading, subst (λ b. script_of b ≡ Ok reading) (same ∙ sym whole) said, is)
+judged-says (Some input) bytes seen same (inr long) script (reading, said, is) = absurd (long-isnt bytes long.0 (subst IsOfForm same (reading, said)))
+
+-- a session that serves all of a script serves all that the input says
+pub serves-all : (left : Option (List ℕ)) (script : Script) (streams : List (List Request)) (sessions : List Session) → script.streams ≡ streams → FirstServesAll streams script.steps sessions → IfSome left (SaysScript script) → ServesAllOf left sessions
+serves-all left script [] [] are serves says = absurd serves
+serves-all left script [] (s ∷ sessions) are serves says = absurd serves
+serves-all left script (requests ∷ streams) [] are serves says = absurd serves
+serves-all None script (requests ∷ streams) (s ∷ sessions) are serves says = (requests, script.steps, serves, tt)
+serves-all (Some input) script (requests ∷ streams) (s ∷ sessions) are serves (reading, said, is) = (requests, script.steps, serves, (reading, said, (let both : reading.requests ∷ [] ≡ requests ∷ streams = sym is.streams_is ∙ are in head both), sym is.steps_is))
+  where
+    head : {xs ys : List (List Request)} {x y : List Request} → x ∷ xs ≡ y ∷ ys → x ≡ y
+    head e = cc

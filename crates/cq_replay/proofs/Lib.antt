@@ -3,3 +3,4 @@ pub mod Endings
 pub mod Servable
 pub mod Moves
 pub mod WordLaws
+pub mod Served

@@ -1,5 +1,5 @@
 -- How the entries and the client's requests move on.
-use Rattle.std.proofs.Common.{◌≡◌, ℕ, ◌+◌, ◌<◌, ◌≤◌, List, [], ◌∷◌, ◌++◌, length, Result, Ok, Err, OnOk, refl, sym, ap, ◌∙◌, subst, arith, append_assoc, append-nil, length-append, Bool, true, false, cond, Option}
+use Rattle.std.proofs.Common.{◌≡◌, ℕ, ◌+◌, ◌≤◌, List, [], ◌∷◌, ◌++◌, length, Result, Ok, Err, OnOk, refl, sym, ap, ◌∙◌, arith, append_assoc, length-append, Bool, true, false, cond, Option}
 use Rattle.std.specs.Prelude.{◌==◌, map}
 use Rattle.std.proofs.lemmas.List.{length-map}
 use Rattle.cq_journal.specs.declared.event.Event.{Event}
@@ -108,3 +108,8 @@ ok_too (Err e) p = tt
 -- what a session that has only begun has to serve
 pub demand_fresh : (m : ℕ) (journal : List Entry) (w : Handed) (after : List After) (rest : List Request) → IsFresh m journal w after → demand journal w rest ≡ rest
 demand_fresh m journal w after rest fresh = ap (λ l. asks l 0 ++ w.requests ++ rest) fresh.opened ∙ ap (λ (v : Handed). v.requests ++ rest) fresh.none_waits
+
+-- what holds of an answer that is Ok
+pub at_ok : {T E P : Type 0} {v : T} (result : Result T E) → result ≡ Ok v → OnOk result P → P
+at_ok (Ok v) is has = has
+at_ok (Err e) is has = cc

@@ -1,7 +1,6 @@
 -- The words of a schedule, one after another.
-use Rattle.std.proofs.Common.{◌≡◌, ◌⊎◌, inl, inr, ℕ, zero, suc, ◌+◌, ◌-◌, ◌<◌, ◌≤◌, Bool, true, false, cond, List, [], ◌∷◌, ◌++◌, length, take, drop, get_or, Result, Ok, Err, refl, sym, ap, ◌∙◌, subst, arith, append_assoc, append-nil, length-append}
+use Rattle.std.proofs.Common.{◌≡◌, ◌⊎◌, inl, inr, ℕ, ◌+◌, ◌-◌, ◌<◌, ◌≤◌, Bool, true, false, cond, List, [], ◌∷◌, ◌++◌, length, take, drop, get_or, Ok, refl, sym, ap, ◌∙◌, subst, arith, length-append}
 use Rattle.std.specs.Prelude.{nat_lt, ◌&&◌, reverse}
-use Rattle.std.specs.List.{AllByRecursion}
 use Rattle.std.proofs.lemmas.Bool.Decides.{nat_tests}
 use Rattle.std.proofs.lemmas.List.{drop_at, drop-drop, take_more, reverse-append}
 use Rattle.cq_inbox.specs.declared.request.Request.{Request}
@@ -10,7 +9,6 @@ use Rattle.cq_journal.specs.declared.session.After.{After}
 use Rattle.cq_journal.specs.Asks.{asks}
 use Rattle.cq_journal.specs.Confirms.{AreConfirmed, AddsConfirms}
 use Rattle.cq_journal.specs.Legal.{newest}
-use Rattle.cq_node.specs.declared.outcome.NodeError.{NodeError}
 use Rattle.cq_node.specs.declared.outcome.Step.{Step}
 use Rattle.cq_node.specs.declared.outcome.Step.TheVariants.{Did, Idle}
 use Rattle.cq_node.specs.declared.outcome.Turn.{Turn}
@@ -19,8 +17,8 @@ use Rattle.cq_node.specs.Turned.{Turned, Wrote, IsIdle, HasDone}
 use Rattle.cq_node.specs.Waiting.{Handed}
 use Rattle.cq_script.specs.declared.script.StepWord.{StepWord}
 use Rattle.cq_script.specs.declared.script.StepWord.TheVariants.{Client, Turn as turn_word, Write}
-use Rattle.cq_replay.specs.Done.{DoesWords, Standing, first_entries, answered, at_start, handed_after, standing, one_waits, Did as did_word, IsDone, AreDone}
-use Rattle.cq_replay.specs.Running.{WordDid, HasServed, MovesOn, IsFresh, stands, demand, hands}
+use Rattle.cq_replay.specs.Done.{DoesWords, Standing, first_entries, answered, handed_after, standing, one_waits, Did as did_word, IsDone, AreDone}
+use Rattle.cq_replay.specs.Running.{WordDid, HasServed, IsFresh, stands, demand, hands}
 use Rattle.cq_replay.proofs.Moves.{asked_one, length-demand}
 
 -- the first entries of a journal that goes on

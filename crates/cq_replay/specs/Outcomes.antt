@@ -7,7 +7,12 @@ use Rattle.cq_io.specs.declared.status.Status.TheVariants as status
 use Rattle.cq_journal.specs.declared.session.Session.{Session}
 use Rattle.cq_print.specs.Text.{text_of}
 use Rattle.cq_script.specs.declared.reading.Reading.{Reading}
+use Rattle.cq_inbox.specs.declared.request.Request.{Request}
+use Rattle.cq_script.specs.declared.script.Script.{Script}
+use Rattle.cq_script.specs.declared.script.StepWord.{StepWord}
 use Rattle.cq_script.specs.Grammar.{script_of}
+use Rattle.cq_script.specs.Scripts.{IsScript}
+use Rattle.cq_replay.specs.Played.{AreServing, FirstServesAll}
 use Rattle.cq_replay.specs.Words.{IsCommand}
 use Rattle.cq_replay.specs.declared.playing.Ending.{Ending}
 use Rattle.cq_replay.specs.declared.playing.Ending.TheVariants.{Served, Failed, Output, Memory}
@@ -25,6 +30,22 @@ AgreesWithWords status.InputFault words = IsCommand words
 -- the input is a script of the form
 abbrev pub IsOfForm : List ℕ → Type 0
 IsOfForm input = (reading : Reading) × (script_of input ≡ Ok reading)
+
+-- the input is the script of these requests and words
+abbrev pub Says : List ℕ → List Request → List StepWord → Type 0
+Says input requests words = (reading : Reading) × (script_of input ≡ Ok reading) × (reading.requests ≡ requests) × (reading.steps ≡ words)
+
+-- what the input says is this script
+abbrev pub SaysScript : Script → List ℕ → Type 0
+SaysScript script input = (reading : Reading) × (script_of input ≡ Ok reading) × IsScript reading script
+
+-- if the input is a script, the sessions serve it, as far as they came
+abbrev pub AreServingInput : List Session → List ℕ → Type 0
+AreServingInput sessions input = (requests : List Request) (words : List StepWord) → Says input requests words → AreServing (requests ∷ []) words sessions
+
+-- the first session serves all of a script, which is what the input says, where that is told
+abbrev pub ServesAllOf : Option (List ℕ) → List Session → Type 0
+ServesAllOf left sessions = (requests : List Request) × (words : List StepWord) × FirstServesAll (requests ∷ []) words sessions × IfSome left (λ input. Says input requests words)
 
 -- the status agrees with the input: Script is answered only where it isn't of the form, and what was served is
 abbrev pub AgreesWithInput : Status → List ℕ → Type 0

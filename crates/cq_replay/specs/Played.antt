@@ -21,7 +21,7 @@ use Rattle.cq_node.specs.declared.outcome.NodeError.TheVariants.{Fault}
 use Rattle.cq_node.specs.Waiting.{is_servable}
 use Rattle.cq_print.specs.Text.{text_of}
 use Rattle.cq_replay.specs.declared.playing.Ending.{Ending}
-use Rattle.cq_replay.specs.declared.playing.Ending.TheVariants.{Served, Failed, Output, Memory}
+use Rattle.cq_replay.specs.declared.playing.Ending.TheVariants.{Failed}
 
 -- the journal of each session is legal
 abbrev pub AreLegal : List Session → Type 0

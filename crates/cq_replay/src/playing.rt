@@ -11,7 +11,10 @@ ghost use Rattle.cq_node.specs.declared.outcome.NodeError.TheVariants.{Fault as 
 ghost use Rattle.cq_node.specs.Waiting.{is_servable};
 ghost use Rattle.cq_print.specs.Text.{text_of};
 ghost use Rattle.cq_script.specs.Scripts.{KeepsLimits};
-ghost use Rattle.cq_replay.specs.Played.{AreLegal, FirstText, IsRight, Ended, IfFailed};
+ghost use Rattle.cq_held.specs.Held.{as_read, Held};
+ghost use Rattle.cq_journal.specs.History.{line};
+ghost use Rattle.cq_replay.specs.Played.{AreLegal, FirstText, IsRight, Ended, IfFailed, Serves, ServesAll, AreServing, FirstServesAll, FirstHeld};
+ghost use Rattle.cq_replay.specs.Running.{IsFresh};
 
 use crate::player::Player;
 use cq_disk::Disk;
@@ -53,6 +56,11 @@ pub fn play<C: Disk, W: Sink>(alloc: Global, script: Script, scratch: C, sink: &
     // Whatever the ending, what the session did was allowed.
     ensures legal { AreLegal result.sessions.items }
     ensures text { result.ending ≡ Ending.Served → FirstText (W.taken sink.old) (W.taken sink.new) result.sessions.items }
+    // The requests are answered in their order and the words done in theirs: all of them where all was served. Then each
+    // publish is confirmed, and the files hold exactly the messages that were published.
+    ensures serves { AreServing script.streams script.steps result.sessions.items }
+    ensures served { result.ending ≡ Ending.Served → FirstServesAll script.streams script.steps result.sessions.items }
+    ensures held { result.ending ≡ Ending.Served → C.tells → FirstHeld (C.files result.scratch) result.sessions.items }
     // A fault is answered only where one came.
     ensures later { C.faults scratch ≤ C.faults result.scratch }
     ensures failed { Ended result.ending (C.faults scratch) (C.faults result.scratch) (C.fuse scratch) (C.moment result.scratch) (C.struck scratch) (C.struck result.scratch) }
@@ -102,6 +110,8 @@ fn open<C: Disk>(
     requires streams { IsRight streams }
     requires no_files { C.tells → (n : Name) → C.files scratch n ≡ None }
     ensures disk { IfOk result (λ player. (player.node.store.disk ≡ scratch) × (player.node.store.halted ≡ false)) }
+    ensures fresh { IfOk result (λ player. IsFresh (C.moment scratch) player.node.core.entries player.node.waiting player.after.items) }
+    ensures rest { IfOk result (λ player. streams ≡ player.rest.items ∷ []) }
     ensures refused { IfErr result (λ back. back ≡ scratch) }
 {
     let Ok(inbox) = PlainInbox::new(alloc, 1) else {
@@ -122,6 +132,7 @@ fn first_stream(alloc: Global, streams: Streams) -> VecDeque<Request>
     requires { IsRight streams }
     ensures servable { list_all is_servable result.items ≡ true }
     ensures few { publishes result.items ≤ 4096 }
+    ensures same { streams ≡ result.items ∷ [] }
 {
     match streams.into_vec().pop() {
         Some(stream) => VecDeque::from_vec(stream),
@@ -137,7 +148,11 @@ fn serve<C: Disk, W: Sink>(
     sink: &mut W,
 ) -> (Ending, Session, C)
     requires open { player.node.store.halted ≡ false }
+    requires fresh { IsFresh (C.moment player.node.store.disk) player.node.core.entries player.node.waiting player.after.items }
     ensures legal { Legal result.1.journal.entries }
+    ensures serves { Serves player.rest.items words.now result.1 }
+    ensures all { result.0 ≡ Ending.Served → ServesAll player.rest.items words.now result.1 }
+    ensures held { result.0 ≡ Ending.Served → C.tells → Held (as_read (C.files result.2)) (line result.1.journal.entries) }
     ensures text { result.0 ≡ Ending.Served → Appends (W.taken sink.old) (W.taken sink.new) (text_of 0 result.1.journal.entries []) }
     ensures cut { result.1.cut.items ≡ [] }
     ensures later { C.faults player.node.store.disk ≤ C.faults result.2 }

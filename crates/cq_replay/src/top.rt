@@ -6,8 +6,8 @@ ghost use Rattle.cq_disk.specs.Rose.{Rose};
 ghost use Rattle.cq_disk.specs.Call.{BeforeFuse};
 ghost use Rattle.cq_script.specs.Scripts.{KeepsLimits};
 ghost use Rattle.cq_replay.specs.Words.{IsCommand};
-ghost use Rattle.cq_replay.specs.Played.{AreLegal};
-ghost use Rattle.cq_replay.specs.Outcomes.{AgreesWithWords, AgreesWithInput, IsOfForm, IsRefusal, IsEnding, StatusOf, TextAndOk};
+ghost use Rattle.cq_replay.specs.Played.{AreLegal, AreServing, FirstServesAll, FirstHeld};
+ghost use Rattle.cq_replay.specs.Outcomes.{AgreesWithWords, AgreesWithInput, IsOfForm, IsRefusal, IsEnding, StatusOf, TextAndOk, SaysScript, AreServingInput, ServesAllOf};
 
 use crate::input::{InputError, read_input};
 use crate::playing::{Ending, Played, play};
@@ -39,6 +39,12 @@ pub fn offline<S: Source, C: Disk, W: Sink>(
     ensures legal { AreLegal result.sessions.items }
     ensures text { result.status ≡ Status.Ok → TextAndOk (W.taken sink.old) (W.taken sink.new) result.sessions.items }
 
+    // The requests of the script are answered in their order and its words done in theirs: all of them at Ok. Then each
+    // publish is confirmed, and the files of the scratch disk hold exactly the messages that were published, in order.
+    ensures serves { IfSome (S.left source.old) (AreServingInput result.sessions.items) }
+    ensures served { result.status ≡ Status.Ok → ServesAllOf (S.left source.old) result.sessions.items }
+    ensures held { result.status ≡ Status.Ok → C.tells → FirstHeld (C.files result.scratch) result.sessions.items }
+
     // A fault is answered only where one came in this call.
     ensures disk { result.status ≡ Status.DiskFault → Rose (C.faults scratch) (C.faults result.scratch) }
     ensures struck { result.status ≡ Status.DiskFault → BeforeFuse (C.fuse scratch) (C.moment result.scratch) → Rose (C.struck scratch) (C.struck result.scratch) }
@@ -56,6 +62,7 @@ fn judge<S: Source>(alloc: Global, words: &[&str], source: &mut S) -> Result<Scr
     ensures ok { IfOk result (λ script. IsCommand (map (λ w. w.now) words.now) × KeepsLimits script) }
     ensures err { IfErr result (λ status. IsRefusal status × AgreesWithWords status (map (λ w. w.now) words.now)) }
     ensures form { IfOk result (λ script. IfSome (S.left source.old) IsOfForm) }
+    ensures says { IfOk result (λ script. IfSome (S.left source.old) (SaysScript script)) }
     ensures whole { IfOk result (λ script. IsAtEnd (S.left source.new)) }
     ensures no_form { IfErr result (λ status. IfSome (S.left source.old) (AgreesWithInput status)) }
     ensures input { IsErrOf result Status.InputFault → Rose (S.faults source.old) (S.faults source.new) }
@@ -101,6 +108,9 @@ fn served<C: Disk, W: Sink>(alloc: Global, script: Script, scratch: C, sink: &mu
     ensures ending { IsEnding result.status }
     ensures legal { AreLegal result.sessions.items }
     ensures text { result.status ≡ Status.Ok → TextAndOk (W.taken sink.old) (W.taken sink.new) result.sessions.items }
+    ensures serves { AreServing script.streams script.steps result.sessions.items }
+    ensures served { result.status ≡ Status.Ok → FirstServesAll script.streams script.steps result.sessions.items }
+    ensures held { result.status ≡ Status.Ok → C.tells → FirstHeld (C.files result.scratch) result.sessions.items }
     ensures disk { result.status ≡ Status.DiskFault → Rose (C.faults scratch) (C.faults result.scratch) }
     ensures struck { result.status ≡ Status.DiskFault → BeforeFuse (C.fuse scratch) (C.moment result.scratch) → Rose (C.struck scratch) (C.struck result.scratch) }
     ensures output { result.status ≡ Status.OutputFault → Rose (W.faults sink.old) (W.faults sink.new) }

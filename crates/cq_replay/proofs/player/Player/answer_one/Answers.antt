@@ -1,4 +1,4 @@
-use Rattle.std.proofs.Common.{◌≡◌, ◌++◌, refl, sym, ap, ◌∙◌}
+use Rattle.std.proofs.Common.{ap}
 use Rattle.cq_replay.proofs.Moves.{turned, stays, then}
 use Rattle.cq_replay.proofs.player.Player.answer_one.Goals as goal
 

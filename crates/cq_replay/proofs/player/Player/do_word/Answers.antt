@@ -1,13 +1,13 @@
-use Rattle.std.proofs.Common.{◌≡◌, ◌<◌, ℕ, length, Ok, Err, ap, sym, subst, refl, ◌∙◌}
+use Rattle.std.proofs.Common.{◌≡◌, ◌<◌, ℕ, length, Ok, ap, sym, subst}
 use Rattle.cq_node.specs.declared.outcome.NodeError.{NodeError}
 use Rattle.cq_node.specs.declared.outcome.Step.{Step}
 use Rattle.std.proofs.Common.{Result}
-use Rattle.cq_node.specs.Turned.{Turned, Wrote, IsIdle, HasDone}
+use Rattle.cq_node.specs.Turned.{Wrote, IsIdle, HasDone}
 use Rattle.cq_journal.specs.Confirms.{AreConfirmed}
 use Rattle.cq_script.specs.declared.script.StepWord.{StepWord}
 use Rattle.cq_replay.specs.Running.{WordDid, demand}
 use Rattle.cq_replay.proofs.Moves.{turned}
-use Rattle.cq_replay.proofs.WordLaws.{write_did, turn_did, client_did}
+use Rattle.cq_replay.proofs.WordLaws.{write_did}
 use Rattle.cq_replay.proofs.player.Player.do_word.Goals as goal
 
 pub returns-in_ok-turn-in-Turn-clause-moves : goal.returns-in_ok-turn-in-Turn-clause-moves

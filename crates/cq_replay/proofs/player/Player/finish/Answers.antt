@@ -1,4 +1,4 @@
-use Rattle.std.proofs.Common.{◌≡◌, ℕ, ◌+◌, ◌-◌, ◌≤◌, ◌<◌, [], length, refl, sym, ap, ◌∙◌, arith}
+use Rattle.std.proofs.Common.{◌≡◌, ◌+◌, [], length, refl, ap, ◌∙◌, arith}
 use Rattle.std.proofs.lemmas.List.{nil_from_length}
 use Rattle.cq_node.specs.declared.outcome.NodeError.TheVariants.{Fault as node_fault}
 use Rattle.cq_journal.specs.Asks.{asks}
@@ -30,8 +30,7 @@ loop-round-preserved g c =
     let a = c.args.self.now in
     let b = c.loop-round.self in
     let e = c.round.new.self in
-    let so_far = c.loop-round.invariant in
-    (
+    let so_far = c.loop-round.invariant in (
       goes_next node_fault c.round.result b.node.store.halted e.node.store.halted (d.moment a.node.store.disk) (d.moment b.node.store.disk) (d.moment e.node.store.disk) (d.faults a.node.store.disk) (d.faults b.node.store.disk) (d.faults e.node.store.disk) (d.struck a.node.store.disk) (d.struck b.node.store.disk) (d.struck e.node.store.disk) (d.fuse a.node.store.disk) (d.fuse b.node.store.disk) (d.fuse e.node.store.disk) (d.planned a.node.store.disk) (d.planned b.node.store.disk) (d.planned e.node.store.disk)
           so_far.0 c.in_ok-round.ensures.goes_on c.round.ensures.later c.round.ensures.cause c.round.ensures.strike c.round.ensures.plan,
       then a.node.core.entries b.node.core.entries e.node.core.entries a.node.waiting b.node.waiting e.node.waiting a.rest.items b.rest.items e.rest.items so_far.1 (c.round.ensures.moves),

@@ -1,4 +1,4 @@
-use Rattle.std.proofs.Common.{◌≡◌, sym, ap, ◌∙◌}
+use Rattle.std.proofs.Common.{ap}
 use Rattle.cq_replay.proofs.Moves.{wrote, then}
 use Rattle.cq_replay.proofs.player.Player.round.Goals as goal
 

@@ -1,6 +1,5 @@
-use Rattle.std.proofs.Common.{◌≡◌, ℕ, ◌+◌, ◌-◌, ◌≤◌, ◌<◌, List, [], ◌∷◌, ◌++◌, get_or, length, refl, sym, ap, ◌∙◌, subst, arith, length-append}
+use Rattle.std.proofs.Common.{◌≡◌, ℕ, ◌<◌, List, [], ◌∷◌, ◌++◌, get_or, length, refl, sym, ap, ◌∙◌, subst, arith, length-append}
 use Rattle.cq_node.specs.declared.outcome.NodeError.TheVariants.{Fault as node_fault}
-use Rattle.cq_journal.specs.Asks.{asks}
 use Rattle.std.proofs.lemmas.List.{get_or_default}
 use Rattle.cq_journal.specs.declared.event.Entry.{Entry}
 use Rattle.cq_journal.specs.declared.event.Event.TheVariants.{Opened}
@@ -18,8 +17,7 @@ begun old now added m opened grown = omega (arith, ap length grown, length-appen
 pub loop-word-init : goal.loop-word-init
 loop-word-init g c =
     let d = g.D.Disk in
-    let a = c.args.self.now in
-    (
+    let a = c.args.self.now in (
       record { running = c.requires.open; later = omega arith; faults_later = omega arith; struck_later = omega arith; same_fuse = refl; same_plan = refl },
       record { added = []; is = refl; same = refl },
       ap (λ (v : Handed). v.kept) c.requires.fresh.none_waits,
@@ -39,8 +37,7 @@ loop-word-preserved g c =
     let a = c.args.self.now in
     let b = c.loop-word.self in
     let e = c.step.new.self in
-    let so_far = c.loop-word.invariant in
-    (
+    let so_far = c.loop-word.invariant in (
       goes_next node_fault c.step.result b.node.store.halted e.node.store.halted (d.moment a.node.store.disk) (d.moment b.node.store.disk) (d.moment e.node.store.disk) (d.faults a.node.store.disk) (d.faults b.node.store.disk) (d.faults e.node.store.disk) (d.struck a.node.store.disk) (d.struck b.node.store.disk) (d.struck e.node.store.disk) (d.fuse a.node.store.disk) (d.fuse b.node.store.disk) (d.fuse e.node.store.disk) (d.planned a.node.store.disk) (d.planned b.node.store.disk) (d.planned e.node.store.disk)
           so_far.0 c.in_ok-step.ensures.goes_on c.step.ensures.later c.step.ensures.cause c.step.ensures.strike c.step.ensures.plan,
       then a.node.core.entries b.node.core.entries e.node.core.entries a.node.waiting b.node.waiting e.node.waiting a.rest.items b.rest.items e.rest.items so_far.1 (c.step.ensures.moves),

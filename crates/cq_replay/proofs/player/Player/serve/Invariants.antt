@@ -1,4 +1,4 @@
-use Rattle.std.proofs.Common.{◌≡◌, ℕ, ◌+◌, ◌≤◌, false, length}
+use Rattle.std.proofs.Common.{◌≡◌, ◌≤◌, false, length}
 use Rattle.std.specs.Prelude.{vec_capacity}
 use Rattle.cq_replay.specs.Running.{GoesOn, MovesOn, HasServed}
 use Rattle.cq_replay.proofs.player.Player.serve.Given as goal

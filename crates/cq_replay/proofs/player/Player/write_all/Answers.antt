@@ -1,4 +1,4 @@
-use Rattle.std.proofs.Common.{◌≡◌, Ok, refl, sym, ap, ◌∙◌, subst}
+use Rattle.std.proofs.Common.{Ok, sym, ap, ◌∙◌, subst}
 use Rattle.cq_node.specs.declared.outcome.NodeError.TheVariants.{Fault as node_fault}
 use Rattle.cq_node.specs.Turned.{IsIdle}
 use Rattle.cq_replay.proofs.Moves.{wrote, then, goes_next}
@@ -10,8 +10,7 @@ loop-preserved g c =
     let a = c.args.self.now in
     let b = c.loop.self in
     let e = c.write.new.self in
-    let so_far = c.loop.invariant in
-    (
+    let so_far = c.loop.invariant in (
       goes_next node_fault c.write.result b.node.store.halted e.node.store.halted (d.moment a.node.store.disk) (d.moment b.node.store.disk) (d.moment e.node.store.disk) (d.faults a.node.store.disk) (d.faults b.node.store.disk) (d.faults e.node.store.disk) (d.struck a.node.store.disk) (d.struck b.node.store.disk) (d.struck e.node.store.disk) (d.fuse a.node.store.disk) (d.fuse b.node.store.disk) (d.fuse e.node.store.disk) (d.planned a.node.store.disk) (d.planned b.node.store.disk) (d.planned e.node.store.disk)
           so_far.0 c.in_ok-write.ensures.goes_on c.write.ensures.later c.write.ensures.cause c.write.ensures.strike c.write.ensures.plan,
       then a.node.core.entries b.node.core.entries e.node.core.entries a.node.waiting b.node.waiting e.node.waiting a.rest.items b.rest.items e.rest.items so_far.1

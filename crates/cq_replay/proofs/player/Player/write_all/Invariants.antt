@@ -1,5 +1,4 @@
-use Rattle.std.proofs.Common.{◌≡◌, ℕ, ◌+◌, ◌≤◌, false, length}
-use Rattle.std.specs.Prelude.{vec_capacity}
+use Rattle.std.proofs.Common.{◌≡◌}
 use Rattle.cq_replay.specs.Running.{GoesOn, MovesOn}
 use Rattle.cq_node.specs.Core.{undecided}
 use Rattle.cq_replay.proofs.player.Player.write_all.Given as goal
