@@ -98,6 +98,7 @@ impl<'a, N: TableName> Flags for Looker<'a, N> {
         ensures seen { MatchBool result (seen_of self.new.seats client ≡ seen_of self.old.seats client ++ delivery ∷ []) (seen_of self.new.seats client ≡ seen_of self.old.seats client) }
         ensures other_seen { (c : ℕ) → c ≢ client → seen_of self.new.seats c ≡ seen_of self.old.seats c }
         ensures look { IsLook result delivery (names_of self.old.seats client) (looks_of self.old.seats client) (looks_of self.new.seats client) }
+        ensures other_looks { (c : ℕ) → c ≢ client → looks_of self.new.seats c ≡ looks_of self.old.seats c }
     {
         self.seats.dropped(self.words, client, delivery)
     }

@@ -30,10 +30,14 @@ impl Journal {
         }
     }
 
-    /// Makes room for so many more entries. Where memory runs out the entries are as before.
+    /// Makes room for so many more entries. Where that much room is spare it takes no memory; where memory runs out the
+    /// journal is as before.
     pub fn reserve(&mut self, count: usize) -> Result<(), AllocError>
         ensures entries { self.new.entries ≡ self.old.entries }
         ensures room { OnOk result (count ≤ self.new.room) }
+        ensures kept { self.old.room ≤ self.new.room }
+        ensures full { OnErr result (self.old.room < count) }
+        ensures err { OnErr result (self.new.room ≡ self.old.room) }
     {
         self.items.reserve(count)
     }

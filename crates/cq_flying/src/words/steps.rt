@@ -48,6 +48,7 @@ impl WordSeats {
         ensures seen { MatchBool result (seen_of self.new client ≡ seen_of self.old client ++ delivery ∷ []) (seen_of self.new client ≡ seen_of self.old client) }
         ensures look { IsLook result delivery (names_of self.old client) (looks_of self.old client) (looks_of self.new client) }
         ensures others { (c : ℕ) → c ≢ client → seen_of self.new c ≡ seen_of self.old c }
+        ensures other_looks { (c : ℕ) → c ≢ client → looks_of self.new c ≡ looks_of self.old c }
     {
         let one = &words.clients[client as usize];
         self.ends[client as usize].dropped(one, delivery)

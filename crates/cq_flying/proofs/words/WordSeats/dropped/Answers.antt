@@ -31,3 +31,6 @@ returns-clause-look c =
 
 pub returns-clause-others : goal.returns-clause-others
 returns-clause-others c k ne = set_keeps seen_at c.args.self.now.ends.items c.args.client k c.dropped.new.self [] ne
+
+pub returns-clause-other_looks : goal.returns-clause-other_looks
+returns-clause-other_looks c k ne = set_keeps end_looks c.args.self.now.ends.items c.args.client k c.dropped.new.self [] ne
