@@ -1,2 +1,3 @@
 pub mod Field
+pub mod FieldLemmas
 pub mod Numbers

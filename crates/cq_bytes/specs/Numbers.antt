@@ -1,5 +1,5 @@
 -- Lists of numbers in which none stands twice.
-use Rattle.std.specs.Prelude.{◌≡◌, ℕ, ◌<◌, Bool, true, false, ◌==◌, List, [], ◌∷◌}
+use Rattle.std.specs.Prelude.{◌≡◌, ℕ, ◌<◌, Bool, false, ◌==◌, List, [], ◌∷◌}
 use Rattle.std.specs.List.{list_any}
 
 -- whether a number stands in a list

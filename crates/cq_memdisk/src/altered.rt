@@ -27,6 +27,7 @@ pub struct Altered {
 impl Altered {
     /// Reads what is in this disk so.
     pub fn new(disk: MemDisk) -> Altered
+        ensures disk { result.disk ≡ disk }
         ensures moment { ⟦<Altered as Disk>⟧.moment result ≡ 0 }
         ensures faults { ⟦<Altered as Disk>⟧.faults result ≡ 0 }
     {
