@@ -1,3 +1,4 @@
 pub mod Field
+pub mod FieldLemmas
 pub mod Numbers
 pub mod Texts

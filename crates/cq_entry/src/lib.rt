@@ -3,7 +3,7 @@
 
 mod entry;
 
-pub use entry::{Entry, EntryKind, encode};
+pub use entry::{ENTRY_BYTES, Entry, EntryKind, PRESENT, Seen, broken_at, decode, encode};
 
 #[cfg(test)]
 mod tests;

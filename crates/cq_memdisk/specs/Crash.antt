@@ -34,6 +34,10 @@ pub record Crashed (n : ℕ) (names : List Name) (old new : Name → Option File
 abbrev pub SameLeft : (ℕ → ℕ → Image → Type 0) → (ℕ → ℕ → Image → Type 0) → Type 0
 SameLeft old new = (t u : ℕ) (image : Image) → old t u image ↔ new t u image
 
+-- what a crash before this moment may have left is the same
+abbrev pub SameLeftBefore : ℕ → (ℕ → ℕ → Image → Type 0) → (ℕ → ℕ → Image → Type 0) → Type 0
+SameLeftBefore now old new = (t u : ℕ) (image : Image) → u < now → old t u image ↔ new t u image
+
 -- the bytes of files as they read
 abbrev pub image_of : (Name → Option File) → Name → Option (List ℕ)
 image_of files name = option_map (λ f. f.reads) (files name)

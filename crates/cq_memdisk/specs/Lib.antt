@@ -2,6 +2,8 @@ pub mod Change
 pub mod Counts
 pub mod Crash
 pub mod Folder
+pub mod Given
+pub mod Passed
 pub mod Ranges
 pub mod Record
 pub mod Stored

@@ -16,6 +16,7 @@ use Rattle.cq_disk.specs.File.{File, wrote, cut_to, synced_now, fresh, settled, 
 use Rattle.cq_disk.specs.FileLemmas.{wrote_readable, cut_readable, settled_readable, wrote_within, cut_within, length-overwritten}
 use Rattle.cq_disk.specs.Files.{HasFile, HasRange, LenIs, Reads, IsImage, IsImageOf, Becomes, SameFiles, Among, ChangesWithin, NamesAre}
 use Rattle.cq_disk.specs.Call.{Image, Elapses}
+use Rattle.cq_memdisk.specs.Crash.{SameLeftBefore}
 use Rattle.cq_memdisk.specs.Folder.{bytes_of}
 use Rattle.cq_memdisk.specs.declared.change.Change.{Change}
 use Rattle.cq_memdisk.specs.declared.change.Change.TheVariants.{Write, Cut, Sync, Create, Remove, Load}
@@ -96,6 +97,28 @@ elapses old new since before now later next same = record {
     shows = left.shows;
   })) (cases_lt left.moment (before + 1));
 }
+
+-- a record that says the same of an earlier moment says the same of what it left
+same_left : (old new : List Note) (since before now t u : ℕ) (c : Image) → u < now → ((k : ℕ) (n : Name) → k < now → files_at new k n ≡ files_at old k n) → LeftBetween old since before t u c → LeftBetween new since now t u c
+same_left old new since before now t u c lt same left = record {
+  moment = left.moment;
+  from = left.from;
+  to = left.to;
+  later = left.later;
+  past = omega (arith, left.to, lt);
+  shows = same_image (files_at old left.moment) (files_at new left.moment) c (λ n. same left.moment n (omega (arith, left.to, lt))) left.shows;
+}
+
+-- a change that may be noted now changes nothing of what was left before
+pub left_before : {T E : Type 0} (result : Result T E) (old new : List Note) (x : Note) (since now : ℕ) → x.from ≡ now → OnOk result (new ≡ old ++ x ∷ []) → OnErr result (new ≡ old) → SameLeftBefore now (LeftBetween old since now) (LeftBetween new since now)
+left_before result old new x since now from noted not_noted t u c lt = (same_left old new since now now t u c lt same, same_left new old since now now t u c lt (λ k n before. sym (same k n before)))
+  where
+    at_result : {T E : Type 0} (r : Result T E) → OnOk r (new ≡ old ++ x ∷ []) → OnErr r (new ≡ old) → (k : ℕ) (n : Name) → k < now → files_at new k n ≡ files_at old k n
+    at_result (Ok v) is same k n before = ap (λ (l : List Note). files_at l k n) is ∙ not_yet k old x n (omega (arith, before, from))
+    at_result (Err e) is same k n before = ap (λ (l : List Note). files_at l k n) same
+
+    same : (k : ℕ) (n : Name) → k < now → files_at new k n ≡ files_at old k n
+    same = at_result result noted not_noted
 
 -- a crash now leaves an image of the files
 pub only_now : (notes : List Note) (since now : ℕ) (c : Image) → IsPast notes now → LeftBetween notes since now now now c → IsImage (files_of notes) c

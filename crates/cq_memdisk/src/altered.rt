@@ -1,8 +1,12 @@
 // A disk for tests that gives other bytes than it was written.
-ghost use Rattle.std.specs.Prelude.{◌≡◌, ◌+◌, ◌-◌, ◌%◌, ◌^◌, ◌≤◌, ◌<◌, [], None, min, length, slice_index, EachIndex, OnOk, IsTrue, IsFalse};
-ghost use Rattle.cq_disk.specs.Files.{HasFile, HasRange};
+ghost use Rattle.std.specs.Prelude.{◌≡◌, ◌+◌, ◌-◌, ◌%◌, ◌^◌, ◌≤◌, ◌<◌, [], ◌↔◌, None, Some, min, length, slice_index, EachIndex, OnOk, OnErr, IfOk, IfSome, IsErr, IsErrOf, IsTrue, IsFalse};
+ghost use Rattle.cq_disk.specs.declared.disk.DiskError.TheVariants.{Fault as disk_fault};
+ghost use Rattle.cq_disk.specs.File.{wrote, cut_to, synced_now, fresh};
+ghost use Rattle.cq_disk.specs.Files.{Becomes, Changes, SameFiles, HasFile, HasRange, LenIs, NamesAre};
 ghost use Rattle.cq_disk.specs.Rose.{Rose};
-ghost use Rattle.cq_disk.specs.Call.{Caused};
+ghost use Rattle.cq_disk.specs.Call.{Elapses, Caused, CausedOf, StruckBy, StruckByOf, AfterFuse, KeepsPlan};
+ghost use Rattle.cq_memdisk.specs.Change.{files_of};
+ghost use Rattle.cq_memdisk.specs.Given.{given, GivesAltered};
 
 use crate::disk::MemDisk;
 use cq_disk::{Disk, DiskError, Fault, Kind, Name};
@@ -23,6 +27,7 @@ pub struct Altered {
 impl Altered {
     /// Reads what is in this disk so.
     pub fn new(disk: MemDisk) -> Altered
+        ensures disk { result.disk ≡ disk }
         ensures moment { ⟦<Altered as Disk>⟧.moment result ≡ 0 }
         ensures faults { ⟦<Altered as Disk>⟧.faults result ≡ 0 }
     {
@@ -35,6 +40,7 @@ impl Altered {
 
     // A call that failed.
     fn fault(&mut self) -> Fault
+        ensures disk { self.new.disk ≡ self.old.disk }
         ensures moment { self.new.moment ≡ self.old.moment }
         ensures later { self.old.faults ≤ self.new.faults }
         ensures rose { Rose self.old.faults self.new.faults }
@@ -45,6 +51,8 @@ impl Altered {
 
     // Counts a call, which fails at the last moment.
     fn count_call(&mut self) -> Result<(), Fault>
+        ensures disk { self.new.disk ≡ self.old.disk }
+        ensures failed { OnErr result (self.old.moment ≡ 2 ^ 64 - 1) }
         ensures moment { self.new.moment ≡ min (self.old.moment + 1) (2 ^ 64 - 1) }
         ensures later { self.old.moment ≤ self.new.moment }
         ensures in_time { OnOk result (self.old.moment < 2 ^ 64 - 1) }
@@ -60,7 +68,7 @@ impl Altered {
 
     // Whether a file is there and has this range.
     fn has_range(&self, name: Name, at: u64, len: usize) -> bool
-        ensures { IsTrue result → HasRange (⟦<MemDisk as Disk>⟧.files self.now.disk name) at len }
+        ensures { IsTrue result ↔ HasRange (files_of self.now.disk.notes.items name) at len }
     {
         match self.disk.bytes(name) {
             Some(bytes) => {
@@ -73,10 +81,21 @@ impl Altered {
 
     // Whether a file is there.
     fn has(&self, name: Name) -> bool
-        ensures there { IsTrue result → HasFile (⟦<MemDisk as Disk>⟧.files self.now.disk name) }
-        ensures absent { IsFalse result → ⟦<MemDisk as Disk>⟧.files self.now.disk name ≡ None }
+        ensures there { IsTrue result ↔ HasFile (files_of self.now.disk.notes.items name) }
+        ensures absent { IsFalse result → files_of self.now.disk.notes.items name ≡ None }
     {
         self.disk.bytes(name).is_some()
+    }
+}
+
+// What is given of the bytes of a file of this kind.
+fn alter(kind: Kind, bytes: &mut [u8])
+    ensures len { length bytes.new ≡ length bytes.old }
+    ensures given { EachIndex bytes.new (λ k. slice_index bytes.new k ≡ given kind (slice_index bytes.old k)) }
+{
+    match kind {
+        Kind::Index => {}
+        Kind::Small | Kind::Shared => raise(bytes),
     }
 }
 
@@ -91,6 +110,8 @@ fn raise(bytes: &mut [u8])
 }
 
 impl Disk for Altered {
+    ghost use Rattle.cq_memdisk.specs.Passed.{Passed};
+
     ghost tells = { ⊥ };
 
     ghost files = { λ d n. None };
@@ -123,7 +144,17 @@ impl Disk for Altered {
         self.faults
     }
 
-    fn list(&mut self, alloc: Global) -> Result<Vec<Name>, DiskError> {
+    fn list(&mut self, alloc: Global) -> Result<Vec<Name>, DiskError>
+        ensures within { IfOk result (λ names. NamesAre (files_of self.old.disk.notes.items) names.items) }
+        ensures kept { SameFiles (files_of self.old.disk.notes.items) (files_of self.new.disk.notes.items) }
+        ensures passed { Passed self.old self.new result (IsErrOf result disk_fault) (Unit {0}) }
+        ensures in_time { OnOk result (self.old.moment < 2 ^ 64 - 1) }
+        ensures time { Elapses self.old.moment self.new.moment (λ t u image. ⊥) (λ t u image. ⊥) }
+        ensures cause { CausedOf disk_fault self.old.faults self.new.faults result }
+        ensures strike { StruckByOf disk_fault None self.old.moment self.old.faults self.new.faults result }
+        ensures spent { AfterFuse None self.old.moment self.old.faults self.new.faults self.old.faults self.new.faults (IsErrOf result disk_fault) }
+        ensures plan { KeepsPlan None [] None [] }
+    {
         if self.count_call().is_err() {
             return Err(DiskError::Fault);
         }
@@ -137,7 +168,18 @@ impl Disk for Altered {
         }
     }
 
-    fn len(&mut self, name: Name) -> Result<Option<u64>, Fault> {
+    fn len(&mut self, name: Name) -> Result<Option<u64>, Fault>
+        ensures within { IfOk result (λ len. LenIs (files_of self.old.disk.notes.items name) len) }
+        ensures longest { IfOk result (λ len. IfSome len (λ n. n ≤ 2 ^ 62)) }
+        ensures kept { SameFiles (files_of self.old.disk.notes.items) (files_of self.new.disk.notes.items) }
+        ensures passed { Passed self.old self.new result (IsErr result) (Unit {0}) }
+        ensures in_time { OnOk result (self.old.moment < 2 ^ 64 - 1) }
+        ensures time { Elapses self.old.moment self.new.moment (λ t u image. ⊥) (λ t u image. ⊥) }
+        ensures cause { Caused self.old.faults self.new.faults result }
+        ensures strike { StruckBy None self.old.moment self.old.faults self.new.faults result }
+        ensures spent { AfterFuse None self.old.moment self.old.faults self.new.faults self.old.faults self.new.faults (IsErr result) }
+        ensures plan { KeepsPlan None [] None [] }
+    {
         self.count_call()?;
         match self.disk.len(name) {
             Ok(len) => Ok(len),
@@ -145,18 +187,36 @@ impl Disk for Altered {
         }
     }
 
-    fn read(&mut self, name: Name, at: u64, into: &mut [u8]) -> Result<(), Fault> {
+    fn read(&mut self, name: Name, at: u64, into: &mut [u8]) -> Result<(), Fault>
+        ensures within { OnOk result (GivesAltered name.kind (files_of self.old.disk.notes.items name) at into.new) }
+        ensures kept { SameFiles (files_of self.old.disk.notes.items) (files_of self.new.disk.notes.items) }
+        ensures passed { Passed self.old self.new result (IsErr result) (HasRange (files_of self.old.disk.notes.items name) at (length into.old)) }
+        ensures in_time { OnOk result (self.old.moment < 2 ^ 64 - 1) }
+        ensures time { Elapses self.old.moment self.new.moment (λ t u image. ⊥) (λ t u image. ⊥) }
+        ensures cause { Caused self.old.faults self.new.faults result }
+        ensures strike { StruckBy None self.old.moment self.old.faults self.new.faults result }
+        ensures spent { AfterFuse None self.old.moment self.old.faults self.new.faults self.old.faults self.new.faults (IsErr result) }
+        ensures plan { KeepsPlan None [] None [] }
+    {
         self.count_call()?;
         if !self.has_range(name, at, into.len()) || self.disk.read(name, at, into).is_err() {
             return Err(self.fault());
         }
-        if name.kind != Kind::Index {
-            raise(into);
-        }
+        alter(name.kind, into);
         Ok(())
     }
 
-    fn write(&mut self, name: Name, at: u64, bytes: &[u8]) -> Result<(), Fault> {
+    fn write(&mut self, name: Name, at: u64, bytes: &[u8]) -> Result<(), Fault>
+        ensures within { OnOk result (Changes name (wrote at bytes.now) (files_of self.old.disk.notes.items) (files_of self.new.disk.notes.items)) }
+        ensures fits { OnOk result (at + length bytes.now ≤ 2 ^ 62) }
+        ensures passed { Passed self.old self.new result (IsErr result) (HasRange (files_of self.old.disk.notes.items name) at 0) }
+        ensures in_time { OnOk result (self.old.moment < 2 ^ 64 - 1) }
+        ensures time { Elapses self.old.moment self.new.moment (λ t u image. ⊥) (λ t u image. ⊥) }
+        ensures cause { Caused self.old.faults self.new.faults result }
+        ensures strike { StruckBy None self.old.moment self.old.faults self.new.faults result }
+        ensures spent { AfterFuse None self.old.moment self.old.faults self.new.faults self.old.faults self.new.faults (IsErr result) }
+        ensures plan { KeepsPlan None [] None [] }
+    {
         self.count_call()?;
         if !self.has_range(name, at, 0) {
             return Err(self.fault());
@@ -167,7 +227,16 @@ impl Disk for Altered {
         }
     }
 
-    fn cut(&mut self, name: Name, len: u64) -> Result<(), Fault> {
+    fn cut(&mut self, name: Name, len: u64) -> Result<(), Fault>
+        ensures within { OnOk result (Changes name (cut_to len) (files_of self.old.disk.notes.items) (files_of self.new.disk.notes.items)) }
+        ensures passed { Passed self.old self.new result (IsErr result) (HasRange (files_of self.old.disk.notes.items name) len 0) }
+        ensures in_time { OnOk result (self.old.moment < 2 ^ 64 - 1) }
+        ensures time { Elapses self.old.moment self.new.moment (λ t u image. ⊥) (λ t u image. ⊥) }
+        ensures cause { Caused self.old.faults self.new.faults result }
+        ensures strike { StruckBy None self.old.moment self.old.faults self.new.faults result }
+        ensures spent { AfterFuse None self.old.moment self.old.faults self.new.faults self.old.faults self.new.faults (IsErr result) }
+        ensures plan { KeepsPlan None [] None [] }
+    {
         self.count_call()?;
         if !self.has_range(name, len, 0) || self.disk.cut(name, len).is_err() {
             return Err(self.fault());
@@ -175,7 +244,16 @@ impl Disk for Altered {
         Ok(())
     }
 
-    fn sync(&mut self, name: Name) -> Result<(), Fault> {
+    fn sync(&mut self, name: Name) -> Result<(), Fault>
+        ensures within { OnOk result (Changes name synced_now (files_of self.old.disk.notes.items) (files_of self.new.disk.notes.items)) }
+        ensures passed { Passed self.old self.new result (IsErr result) (HasFile (files_of self.old.disk.notes.items name)) }
+        ensures in_time { OnOk result (self.old.moment < 2 ^ 64 - 1) }
+        ensures time { Elapses self.old.moment self.new.moment (λ t u image. ⊥) (λ t u image. ⊥) }
+        ensures cause { Caused self.old.faults self.new.faults result }
+        ensures strike { StruckBy None self.old.moment self.old.faults self.new.faults result }
+        ensures spent { AfterFuse None self.old.moment self.old.faults self.new.faults self.old.faults self.new.faults (IsErr result) }
+        ensures plan { KeepsPlan None [] None [] }
+    {
         self.count_call()?;
         if !self.has(name) || self.disk.sync(name).is_err() {
             return Err(self.fault());
@@ -183,7 +261,16 @@ impl Disk for Altered {
         Ok(())
     }
 
-    fn create(&mut self, name: Name) -> Result<(), Fault> {
+    fn create(&mut self, name: Name) -> Result<(), Fault>
+        ensures within { OnOk result (Becomes name (Some fresh) (files_of self.old.disk.notes.items) (files_of self.new.disk.notes.items)) }
+        ensures passed { Passed self.old self.new result (IsErr result) (files_of self.old.disk.notes.items name ≡ None) }
+        ensures in_time { OnOk result (self.old.moment < 2 ^ 64 - 1) }
+        ensures time { Elapses self.old.moment self.new.moment (λ t u image. ⊥) (λ t u image. ⊥) }
+        ensures cause { Caused self.old.faults self.new.faults result }
+        ensures strike { StruckBy None self.old.moment self.old.faults self.new.faults result }
+        ensures spent { AfterFuse None self.old.moment self.old.faults self.new.faults self.old.faults self.new.faults (IsErr result) }
+        ensures plan { KeepsPlan None [] None [] }
+    {
         self.count_call()?;
         if self.has(name) || self.disk.create(name).is_err() {
             return Err(self.fault());
@@ -191,7 +278,16 @@ impl Disk for Altered {
         Ok(())
     }
 
-    fn remove(&mut self, name: Name) -> Result<(), Fault> {
+    fn remove(&mut self, name: Name) -> Result<(), Fault>
+        ensures within { OnOk result (Becomes name None (files_of self.old.disk.notes.items) (files_of self.new.disk.notes.items)) }
+        ensures passed { Passed self.old self.new result (IsErr result) (HasFile (files_of self.old.disk.notes.items name)) }
+        ensures in_time { OnOk result (self.old.moment < 2 ^ 64 - 1) }
+        ensures time { Elapses self.old.moment self.new.moment (λ t u image. ⊥) (λ t u image. ⊥) }
+        ensures cause { Caused self.old.faults self.new.faults result }
+        ensures strike { StruckBy None self.old.moment self.old.faults self.new.faults result }
+        ensures spent { AfterFuse None self.old.moment self.old.faults self.new.faults self.old.faults self.new.faults (IsErr result) }
+        ensures plan { KeepsPlan None [] None [] }
+    {
         self.count_call()?;
         if !self.has(name) || self.disk.remove(name).is_err() {
             return Err(self.fault());

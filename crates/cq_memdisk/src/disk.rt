@@ -8,6 +8,7 @@ ghost use Rattle.cq_disk.specs.File.{File, settled, wrote, cut_to, synced_now, f
 ghost use Rattle.cq_disk.specs.Files.{Becomes, BecomesOrNot, Changes, ChangesWithin, SameFiles, HasFile, HasRange, LenIs, Reads, NamesAre};
 ghost use Rattle.cq_disk.specs.Rose.{Rose};
 ghost use Rattle.cq_disk.specs.Call.{Elapses, Caused, CausedOf, StruckBy, StruckByOf, AfterFuse, BeforeFuse, KeepsPlan};
+ghost use Rattle.cq_memdisk.specs.Crash.{SameLeftBefore};
 ghost use Rattle.cq_memdisk.specs.Folder.{bytes_of};
 ghost use Rattle.cq_memdisk.specs.Record.{only_now, each_now, reads_of, sound_now};
 ghost use Rattle.cq_memdisk.specs.Change.{changed, rewritten, CanChange, CanWrite, HasBytes, Fits, SoundHistory, files_of, LeftBetween};
@@ -97,7 +98,8 @@ impl MemDisk {
         }
     }
 
-    /// Puts a file there, all of it on the disk. It is no call of the device. Where memory is refused nothing changes.
+    /// Puts a file there, all of it on the disk. It is no call of the device, and changes nothing of what a crash before
+    /// now may have left. Where memory is refused nothing changes.
     pub fn load(&mut self, name: Name, bytes: &[u8]) -> Result<(), AllocError>
         requires { length bytes.now ≤ 2 ^ 62 }
         ensures ok { OnOk result (Becomes name (Some (settled bytes.now)) (⟦<MemDisk as Disk>⟧.files self.old) (⟦<MemDisk as Disk>⟧.files self.new)) }
@@ -106,6 +108,7 @@ impl MemDisk {
         ensures faults { ⟦<MemDisk as Disk>⟧.faults self.new ≡ ⟦<MemDisk as Disk>⟧.faults self.old }
         ensures struck { ⟦<MemDisk as Disk>⟧.struck self.new ≡ ⟦<MemDisk as Disk>⟧.struck self.old }
         ensures refused { self.new.refused ≡ self.old.refused }
+        ensures left { SameLeftBefore (⟦<MemDisk as Disk>⟧.moment self.old) (⟦<MemDisk as Disk>⟧.left self.old) (⟦<MemDisk as Disk>⟧.left self.new) }
         ensures plan { KeepsPlan (⟦<MemDisk as Disk>⟧.fuse self.old) (⟦<MemDisk as Disk>⟧.planned self.old) (⟦<MemDisk as Disk>⟧.fuse self.new) (⟦<MemDisk as Disk>⟧.planned self.new) }
     {
         let note = Note {

@@ -87,8 +87,9 @@ fn pending(alloc: Global) -> Result<MemDisk, Fail> {
     disk.load(NAME, &[1, 2, 3, 4])?;
     let _ = disk.write(OTHER, 0, &[9]);
     let _ = disk.write(NAME, 1, &[9]);
-    let _ = disk.cut(NAME, 3);
-    let _ = disk.write(NAME, 3, &[7, 8]);
+    if disk.cut(NAME, 3).is_ok() {
+        let _ = disk.write(NAME, 3, &[7, 8]);
+    }
     Ok(disk)
 }
 
@@ -119,7 +120,11 @@ fn a_crash_leaves_its_image(rt: HostRuntime) -> Result<(), Fail> {
         assert_eq!(rt; disk.bytes(OTHER), Some(index), "image {n}");
         assert_eq!(rt; disk.bytes(NAME), Some(small), "image {n}");
         disk.crash(1)?;
-        assert_eq!(rt; disk.bytes(NAME), Some(small), "nothing waits after image {n}");
+        assert_eq!(rt;
+            disk.bytes(NAME),
+            Some(small),
+            "nothing waits after image {n}"
+        );
         assert_eq!(rt; (disk.moment(), disk.faults()), (4, 0));
     }
     Ok(())
@@ -147,16 +152,41 @@ fn past_the_fuse_each_call_fails(rt: HostRuntime) -> Result<(), Fail> {
 fn an_altered_disk_gives_other_bytes(rt: HostRuntime) -> Result<(), Fail> {
     let alloc = rt.alloc();
     let mut inner = MemDisk::new(alloc, Vec::new(alloc));
-    assert!(rt; inner.load(NAME, &[0, 255]).is_ok());
-    assert!(rt; inner.load(OTHER, &[0, 255]).is_ok());
+    inner.load(NAME, &[0, 255])?;
+    inner.load(OTHER, &[0, 255])?;
     let mut disk = Altered::new(inner);
-    let mut got = [9; 2];
-    assert_eq!(rt; disk.read(NAME, 0, &mut got), Ok(()));
-    assert_eq!(rt; got, [1, 0]);
-    assert_eq!(rt; disk.read(OTHER, 0, &mut got), Ok(()));
-    assert_eq!(rt; got, [0, 255]);
-    assert_eq!(rt; disk.read(NAME, 1, &mut got), Err(Fault));
-    assert_eq!(rt; disk.create(NAME), Err(Fault));
-    assert_eq!(rt; (disk.moment(), disk.faults()), (4, 2));
+    for (name, given) in [(NAME, [1, 0]), (OTHER, [0, 255])] {
+        let mut got = [9; 2];
+        assert_eq!(rt; disk.read(name, 0, &mut got), Ok(()));
+        assert_eq!(rt; got, given);
+        assert_eq!(rt; disk.read(name, 1, &mut got), Err(Fault));
+        assert_eq!(rt; disk.create(name), Err(Fault));
+    }
+    assert_eq!(rt; (disk.moment(), disk.faults()), (6, 4));
+    Ok(())
+}
+
+#[test]
+fn an_altered_disk_passes_calls_on(rt: HostRuntime) -> Result<(), Fail> {
+    let alloc = rt.alloc();
+    let mut disk = Altered::new(MemDisk::new(alloc, vec![in alloc; 8]?));
+    assert_eq!(rt; disk.create(NAME), Ok(()));
+    assert_eq!(rt; disk.write(NAME, 1, &[7]), Err(Fault));
+    assert_eq!(rt; disk.write(NAME, 0, &[7, 8]), Ok(()));
+    assert_eq!(rt; disk.cut(NAME, 3), Err(Fault));
+    assert_eq!(rt; disk.cut(NAME, 1), Ok(()));
+    assert_eq!(rt; disk.sync(OTHER), Err(Fault));
+    assert_eq!(rt; disk.sync(NAME), Ok(()));
+    assert_eq!(rt; disk.len(NAME), Ok(Some(1)));
+    let names = match disk.list(alloc) {
+        Ok(names) => names,
+        Err(_) => Vec::new(alloc),
+    };
+    assert_eq!(rt; names.as_slice(), [NAME].as_slice());
+    assert_eq!(rt; disk.remove(NAME), Ok(()));
+    assert_eq!(rt; disk.len(NAME), Ok(None));
+    // The disk within was called eight times so far, and fails now.
+    assert_eq!(rt; disk.len(NAME), Err(Fault));
+    assert_eq!(rt; (disk.moment(), disk.faults()), (12, 4));
     Ok(())
 }
