@@ -1,0 +1,4 @@
+pub mod Find
+pub mod Places
+pub mod Finds
+pub mod Steps
