@@ -2,3 +2,4 @@ pub mod Find
 pub mod Places
 pub mod Finds
 pub mod Steps
+pub mod Decided

@@ -112,6 +112,15 @@ abbrev pub pass_first : Bool → List Item → List Item
 pass_first skip [] = []
 pass_first skip (i ∷ is) = if i.committed then i ∷ pass_first skip is else (if skips skip i then is else decide i ∷ is)
 
+-- of undecided ones: who has the first, and that it may be kept
+abbrev pub IsHeldBy : Holder → List Item → Type 0
+IsHeldBy h [] = ⊥
+IsHeldBy h (i ∷ is) = i.holder ≡ h
+
+abbrev pub MayKeep : List Item → Type 0
+MayKeep [] = ⊥
+MayKeep (i ∷ is) = is_gone i.holder ≡ false
+
 -- of undecided ones: the first may be passed so, and what that answers
 abbrev pub MayPass : Bool → List Item → Type 0
 MayPass skip [] = ⊥

@@ -7,6 +7,8 @@ ghost use Rattle.std.specs.Option.{option_copied};
 ghost use Rattle.std.specs.VecDeque.{deque_capacity};
 ghost use Rattle.std.specs.Prelude.{length, map, slice_get, ◌≡◌, ◌<◌, ◌≤◌, ◌+◌, ◌++◌, ◌∷◌, [], false, if◌then◌else◌, vec_capacity, OnOk, OnErr};
 
+mod deciding;
+
 use crate::outs::Outs;
 use crate::slots::set_holder;
 use crate::{First, Holder, Item};

@@ -1,7 +1,8 @@
 // The places of a queue's messages.
+ghost use Rattle.cq_queue.specs.Items.{decide};
 ghost use Rattle.cq_queue.specs.Slots.{held_by, slot_at};
 ghost use Rattle.std.specs.VecDeque.{deque_capacity};
-ghost use Rattle.std.specs.Prelude.{◌≡◌, ◌<◌, ◌≤◌, length, filter, slice_set, None, is_some};
+ghost use Rattle.std.specs.Prelude.{◌≡◌, ◌<◌, ◌≤◌, length, filter, slice_set, None, is_some, option_map};
 
 use crate::{Holder, Item};
 use std::collections::VecDeque;
@@ -17,14 +18,25 @@ pub(crate) fn set_holder(slots: &mut VecDeque<Option<Item>>, at: usize, holder: 
     }
 }
 
-/// Takes the message out of a place.
-pub(crate) fn take_item(slots: &mut VecDeque<Option<Item>>, at: usize) -> Option<Item>
+/// Commits the message at a place; its body leaves memory.
+pub(crate) fn commit(slots: &mut VecDeque<Option<Item>>, at: usize)
     requires { at < length slots.old.items }
-    ensures slots { slots.new.items ≡ slice_set slots.old.items at None }
-    ensures result { result ≡ slot_at slots.old.items at }
+    ensures slots { slots.new.items ≡ slice_set slots.old.items at (option_map decide (slot_at slots.old.items at)) }
     ensures capacity { deque_capacity slots.new ≡ deque_capacity slots.old }
 {
-    slots[at].take()
+    if let Some(item) = &mut slots[at] {
+        item.committed = true;
+        item.body = None;
+    }
+}
+
+/// Drops the message of a place.
+pub(crate) fn empty(slots: &mut VecDeque<Option<Item>>, at: usize)
+    requires { at < length slots.old.items }
+    ensures slots { slots.new.items ≡ slice_set slots.old.items at None }
+    ensures capacity { deque_capacity slots.new ≡ deque_capacity slots.old }
+{
+    slots[at] = None;
 }
 
 /// Drops the empty places.
