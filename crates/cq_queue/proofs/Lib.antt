@@ -3,3 +3,4 @@ pub mod Places
 pub mod Finds
 pub mod Steps
 pub mod Decided
+pub mod Settled

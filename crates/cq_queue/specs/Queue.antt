@@ -51,6 +51,12 @@ abbrev pub GaveOne : ℕ → Bool → Queue → Queue → Type 0
 GaveOne c true old new = (give_back c new.items ≡ give_back c old.items) × (new.reserved ≡ old.reserved) × (count_out c new.items + 1 ≡ count_out c old.items)
 GaveOne c false old new = (new ≡ old) × (give_back c old.items ≡ old.items)
 
+-- all that was committed and acknowledged has left, and these are its ids
+pub record IsSettled (ids : List ℕ) (old new : List Item) : Type 0 where
+  pub left : new ≡ unsettled_items old
+  pub count : length ids ≡ length (settled_items old)
+  pub each : (id : ℕ) → contains ids id ≡ has_item (settled_items old) id
+
 -- one that is committed and acknowledged left the queue, or none is
 abbrev pub SettledOne : Option ℕ → Queue → Queue → Type 0
 SettledOne None old new = (new ≡ old) × (settled_items old.items ≡ [])

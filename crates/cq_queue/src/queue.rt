@@ -8,6 +8,7 @@ ghost use Rattle.std.specs.VecDeque.{deque_capacity};
 ghost use Rattle.std.specs.Prelude.{length, map, slice_get, ◌≡◌, ◌<◌, ◌≤◌, ◌+◌, ◌++◌, ◌∷◌, [], false, if◌then◌else◌, vec_capacity, OnOk, OnErr};
 
 mod deciding;
+mod settling;
 
 use crate::outs::Outs;
 use crate::slots::set_holder;

@@ -30,6 +30,16 @@ pub(crate) fn commit(slots: &mut VecDeque<Option<Item>>, at: usize)
     }
 }
 
+/// The id of the message at a place.
+pub(crate) fn id_of(slot: &Option<Item>) -> Option<u128>
+    ensures { result ≡ option_map (λ i. i.id) slot.now }
+{
+    match slot {
+        Some(item) => Some(item.id),
+        None => None,
+    }
+}
+
 /// Drops the message of a place.
 pub(crate) fn empty(slots: &mut VecDeque<Option<Item>>, at: usize)
     requires { at < length slots.old.items }
