@@ -4,3 +4,4 @@ pub mod Finds
 pub mod Steps
 pub mod Decided
 pub mod Settled
+pub mod Packed

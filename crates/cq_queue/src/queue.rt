@@ -8,6 +8,7 @@ ghost use Rattle.std.specs.VecDeque.{deque_capacity};
 ghost use Rattle.std.specs.Prelude.{length, map, slice_get, ◌≡◌, ◌<◌, ◌≤◌, ◌+◌, ◌++◌, ◌∷◌, [], false, if◌then◌else◌, vec_capacity, OnOk, OnErr};
 
 mod deciding;
+mod packing;
 mod settling;
 
 use crate::outs::Outs;
@@ -31,6 +32,8 @@ pub struct QueueCore {
     gone: Vec<usize>,
     /// The place from which on nothing is decided.
     first: usize,
+    /// How many places were emptied since they were closed up last; it only tells when to do so again.
+    empty: usize,
     reserved: usize,
 }
 
@@ -106,6 +109,7 @@ impl QueueCore {
             outs: Outs::new(alloc),
             gone: Vec::new(alloc),
             first: 0,
+            empty: 0,
             reserved: 0,
         }
     }

@@ -64,6 +64,7 @@ impl QueueCore {
                 let id = item.id;
                 let holder = item.holder;
                 let kept = self.pass_held(holder, skip);
+                self.tidy();
                 Passed { id, kept }
             }
             None => Passed { id: 0, kept: false },
@@ -115,6 +116,7 @@ impl QueueCore {
         let at = self.first;
         empty(&mut self.slots, at);
         self.first = at + 1;
+        self.empty = self.empty.saturating_add(1);
     }
 
     /// The first undecided message, which is out for this delivery, leaves the queue; the delivery is no longer out.
@@ -127,6 +129,7 @@ impl QueueCore {
                 let at = self.first;
                 empty(&mut self.slots, at);
                 self.first = at + 1;
+                self.empty = self.empty.saturating_add(1);
             }
             None => {}
         }
