@@ -1,13 +1,13 @@
 -- Which entries are decided, and what passing one does.
 use Prim.Native.Nat.{zero, suc}
-use Rattle.std.proofs.Common.{◌≡◌, ◌≢◌, ℕ, ◌+◌, ◌<◌, ◌≤◌, Bool, true, false, not, cond, List, [], ◌∷◌, ◌++◌, length, get_or, set, drop, refl, sym, ap, ◌∙◌, subst, arith, inl, inr, length-drop}
-use Rattle.std.specs.Prelude.{◌==◌, ◌&&◌, ◌||◌, filter, map, Option, None, Some, slice_get, option_map}
-use Rattle.std.proofs.lemmas.Bool.{cond-true, cond-false, not-true, not_from_false, cases_Bool, both_ways, and_from, eq-eqb}
+use Rattle.std.proofs.Common.{◌≡◌, ◌≢◌, ℕ, ◌+◌, ◌<◌, ◌≤◌, Bool, true, false, not, cond, List, [], ◌∷◌, length, get_or, set, drop, refl, sym, ap, ◌∙◌, subst, arith, length-drop}
+use Rattle.std.specs.Prelude.{◌==◌, ◌||◌, Option, None, Some, slice_get, option_map}
+use Rattle.std.proofs.lemmas.Bool.{cond-true, cond-false, not-true, and_from, eq-eqb}
 use Rattle.std.proofs.lemmas.List.{drop_more, get_or_read}
 use Rattle.cq_queue.specs.declared.item.Item.{Item}
 use Rattle.cq_queue.specs.declared.item.Passed.{Passed}
 use Rattle.cq_queue.specs.declared.item.Holder.{Holder}
-use Rattle.cq_queue.specs.declared.item.Holder.TheVariants.{Waiting, Out, Gone}
+use Rattle.cq_queue.specs.declared.item.Holder.TheVariants.{Out}
 use Rattle.cq_queue.specs.Items.{is_free, is_gone, is_out, out_for, undecided, undecided_items, decide, skips, pass_first, IsHeldBy, MayKeep, MayPass, IsPassed, holder_of}
 use Rattle.cq_queue.specs.Slots.{slot_at, passes, alive}
 use Rattle.cq_queue.specs.declared.outs.Held.{Held}

@@ -1,15 +1,15 @@
 -- Where a delivery stands among those that are out.
 use Prim.Native.Nat.{zero, suc}
-use Rattle.std.proofs.Common.{◌≡◌, ◌≢◌, ℕ, ◌+◌, ◌<◌, ◌≤◌, Bool, true, false, not, cond, List, [], ◌∷◌, length, get_or, set, refl, sym, ap, ◌∙◌, subst, arith, inl, inr, ◌⊎◌}
-use Rattle.std.specs.Prelude.{◌==◌, ◌&&◌, ◌||◌, nat_lt, Option, None, Some, IsSome}
+use Rattle.std.proofs.Common.{◌≡◌, ◌≢◌, ℕ, ◌<◌, ◌≤◌, Bool, true, false, cond, List, [], ◌∷◌, length, get_or, set, refl, sym, ap, ◌∙◌, subst, arith, inl, inr, ◌⊎◌}
+use Rattle.std.specs.Prelude.{◌==◌, ◌&&◌, ◌||◌, nat_lt, Option, None, Some}
 use Rattle.std.specs.List.{list_any, insert, remove, AllByRecursion}
 use Rattle.std.specs.List.Sorted.{IsPartitionedBy}
-use Rattle.std.proofs.lemmas.Bool.{cond-true, cond-false, or_parts, or_from, or_cases, or_left, or_right, and_from, and_parts, and_left, and_right, eq-eqb, eqb-true, eqb-false, ne_eqb, cases_eq, cases_lt, cases_Bool, both_ways, ltb-true, ltb-false, lt-ltb, le-ltb}
+use Rattle.std.proofs.lemmas.Bool.{cond-true, cond-false, or_parts, or_from, or_cases, or_left, or_right, and_from, and_parts, and_left, eq-eqb, eqb-true, ne_eqb, cases_eq, cases_lt, cases_Bool, both_ways, ltb-true, ltb-false, lt-ltb}
 use Rattle.std.proofs.lemmas.List.Folds.{list_any_at}
 use Rattle.std.proofs.lemmas.List.Edits.{length-remove}
 use Rattle.std.proofs.lemmas.List.{get_or_default}
 use Rattle.cq_queue.specs.declared.outs.Held.{Held}
-use Rattle.cq_queue.specs.OutsValue.{is_held, is_of, comes_before, AreSorted}
+use Rattle.cq_queue.specs.OutsValue.{is_held, comes_before, AreSorted}
 use Rattle.cq_queue.specs.Outs.{find, Puts, Took, TookOne, IsBound, StandsAt, StartsAt}
 
 -- ---- the order of deliveries
@@ -25,10 +25,13 @@ before-not : (a b c d : ℕ) → (nat_lt a c || (a == c && nat_lt b d)) ≡ fals
 before-not a b c d h =
     let parts = or_parts _ _ h in
     elim (cases_eq a c) [
-      | inl same ↦ inr (same, elim (cases_lt b d) [
+      | inl same ↦ inr (
+        same,
+        elim (cases_lt b d) [
           | inl l ↦ absurd (both_ways _ parts.1 (and_from _ _ (eq-eqb a c same) (lt-ltb b d l)))
           | inr g ↦ g
-        ])
+        ],
+      )
       | inr other ↦ inl (let g : c ≤ a = ltb-false a c parts.0 in omega arith)
     ]
 
@@ -281,9 +284,11 @@ HasKey h hs i = (x : Held) → is_held h.client h.delivery (get_or hs i x) ≡ t
 
 keyed-all : (x h : Held) → x.client ≡ h.client → x.delivery ≡ h.delivery → (hs : List Held) → AllByRecursion (λ k. precedes x k ≡ true) hs → AllByRecursion (λ k. precedes h k ≡ true) hs
 keyed-all x h e f [] a = tt
-keyed-all x h e f (k ∷ hs) a =
-    (subst (λ d. (nat_lt h.client k.client || (h.client == k.client && nat_lt d k.delivery)) ≡ true) f
-    (subst (λ c. (nat_lt c k.client || (c == k.client && nat_lt x.delivery k.delivery)) ≡ true) e a.0), keyed-all x h e f hs a.1)
+keyed-all x h e f (k ∷ hs) a = (
+  subst (λ d. (nat_lt h.client k.client || (h.client == k.client && nat_lt d k.delivery)) ≡ true) f
+      (subst (λ c. (nat_lt c k.client || (c == k.client && nat_lt x.delivery k.delivery)) ≡ true) e a.0),
+  keyed-all x h e f hs a.1,
+)
 
 pub sorted-set : (hs : List Held) (i : ℕ) (h : Held) → AreSorted hs → i < length hs → HasKey h hs i → AreSorted (set hs i h)
 sorted-set [] i h s l e = absurd (omega arith)
@@ -319,9 +324,12 @@ took-at hs after i c d x s e r a =
 pub took-one-at : (hs after : List Held) (i c : ℕ) (x : Held) → AreSorted hs → StartsAt c hs (Some i) → x ≡ get_or hs i x → after ≡ remove hs i → TookOne c (Some x) hs after
 took-one-at hs after i c x s e r a =
     let mine : x.client ≡ c = ap (λ (h : Held). h.client) r ∙ e.1 x in
-    let at : StandsAt c x.delivery hs (Some i) = (e.0, λ y. (
-    let same : get_or hs i y ≡ x = get_or_default hs i y x e.0 ∙ sym r in
-    subst (λ (h : Held). is_held c x.delivery h ≡ true) (sym same) (held-from c x.delivery x mine refl))) in
+    let at : StandsAt c x.delivery hs (Some i) = (
+      e.0,
+      λ y. (
+          let same : get_or hs i y ≡ x = get_or_default hs i y x e.0 ∙ sym r in
+          subst (λ (h : Held). is_held c x.delivery h ≡ true) (sym same) (held-from c x.delivery x mine refl)),
+    ) in
     let t = took-at hs after i c x.delivery x s at r a in
     (mine, t.0, t.1, t.2)
 

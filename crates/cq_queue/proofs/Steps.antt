@@ -1,13 +1,13 @@
 -- What stands beside the messages, through each call.
 use Prim.Native.Nat.{zero, suc}
-use Rattle.std.proofs.Common.{◌≡◌, ◌≢◌, ℕ, ◌+◌, ◌<◌, ◌≤◌, Bool, true, false, not, cond, List, [], ◌∷◌, ◌++◌, length, get_or, set, drop, refl, sym, ap, ◌∙◌, subst, arith, inl, inr}
-use Rattle.std.specs.Prelude.{◌==◌, ◌&&◌, filter, map, Option, None, Some, Result, MatchResult, slice_get}
+use Rattle.std.proofs.Common.{◌≡◌, ℕ, ◌+◌, ◌<◌, ◌≤◌, Bool, true, false, not, cond, List, [], ◌∷◌, ◌++◌, length, get_or, set, drop, refl, sym, ap, ◌∙◌, subst, arith, inl, inr}
+use Rattle.std.specs.Prelude.{◌==◌, ◌&&◌, Option, None, Some, Result, MatchResult, slice_get}
 use Rattle.std.specs.List.{insert}
 use Rattle.std.specs.List.Sorted.{IsBinarySearchResult}
 use Rattle.std.specs.Ordering.{nat_cmp}
 use Rattle.std.proofs.lemmas.List.Sorted.{searched}
-use Rattle.std.proofs.lemmas.List.{get_or_read, length_push}
-use Rattle.std.proofs.lemmas.Bool.{cond-true, cond-false, and_from, and_parts, and_left, and_right, or_left, or_right, eq-eqb, eqb-true, cases_Bool, both_ways, not_from_false, not-true}
+use Rattle.std.proofs.lemmas.List.{length_push}
+use Rattle.std.proofs.lemmas.Bool.{cond-true, cond-false, and_from, and_parts, and_left, and_right, or_left, or_right, eq-eqb, cases_Bool, both_ways}
 use Rattle.cq_queue.specs.declared.item.Item.{Item}
 use Rattle.cq_queue.specs.declared.item.Holder.{Holder}
 use Rattle.cq_queue.specs.declared.item.Holder.TheVariants.{Waiting, Out, Gone}
@@ -15,8 +15,8 @@ use Rattle.cq_queue.specs.declared.outs.Held.{Held}
 use Rattle.cq_queue.specs.Items.{is_free, is_gone, is_out, is_with, ack_one, back_one, holding, waits, out_for, out_to, committed, undecided, settles, new_item, waiting_items, is_out_to, hand_out, ack, give_back, decide, count_out}
 use Rattle.cq_queue.specs.Slots.{slot_at, held_by, passes, alive, places}
 use Rattle.cq_queue.specs.Outs.{find, Puts}
-use Rattle.cq_queue.specs.Queue.{FindsOut, ListsGone, IsSplit, IsIndexed, HasRoom, IsRising, IsPlace}
-use Rattle.cq_queue.proofs.Places.{passes-within, IsPassing, passing, length-places, places-push, places-set, IsFirstPlace, first-at, places-rise, insert-place, alive-push, alive-none, alive-one, map-alive-set, count-fewer}
+use Rattle.cq_queue.specs.Queue.{FindsOut, ListsGone, IsIndexed, HasRoom, IsRising, IsPlace}
+use Rattle.cq_queue.proofs.Places.{passes-within, IsPassing, passing, length-places, places-push, places-set, IsFirstPlace, first-at, places-rise, insert-place, alive-none, alive-one, map-alive-set, count-fewer}
 use Rattle.cq_queue.proofs.Finds.{free-not-out, free-not-gone, gone-not-free, gone-not-out, out-is, finds-push, finds-same, finds-put, finds-released, gone-push, gone-same, gone-added, gone-popped, popped-settles, splits-push, splits-same, splits-more}
 
 -- the message of a delivery that is out

@@ -9,3 +9,5 @@ mod slots;
 pub use item::{First, Holder, Item, Passed};
 pub use queue::QueueCore;
 
+#[cfg(test)]
+mod tests;

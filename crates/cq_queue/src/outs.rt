@@ -1,7 +1,7 @@
 // Which deliveries are out, and the places of their messages.
 ghost use Rattle.cq_queue.specs.Outs.{find, IsBound, Puts, StandsAt, StartsAt, Took, TookOne};
 ghost use Rattle.cq_queue.specs.OutsValue.{AreSorted, comes_before, is_held};
-ghost use Rattle.std.specs.Prelude.{length, ◌≡◌, ◌<◌, ◌≤◌, ◌+◌, [], OnOk, None, Some, IsSome, slice_set, slice_index_or, vec_capacity};
+ghost use Rattle.std.specs.Prelude.{length, ◌≡◌, ◌<◌, ◌≤◌, ◌+◌, [], OnOk, None, Some, IsSome, slice_set, slice_index_or, vec_capacity, min, is_some};
 ghost use Rattle.std.specs.List.{insert};
 
 use std::alloc::{AllocError, Global};
@@ -107,6 +107,16 @@ impl Outs {
         self.held.len()
     }
 
+    /// Whether this delivery is out.
+    pub fn has(&self, client: u32, delivery: u32) -> bool
+        ensures { result ≡ is_some (find client delivery self.now.held) }
+    {
+        match place_of(&self.held, client, delivery) {
+            Some(_) => true,
+            None => false,
+        }
+    }
+
     /// Takes the memory for so many more.
     pub fn reserve(&mut self, count: usize) -> Result<(), AllocError>
         ensures held { self.new.held ≡ self.old.held }
@@ -114,6 +124,14 @@ impl Outs {
         ensures ok { OnOk result (length self.new.held + count ≤ self.new.room) }
     {
         self.held.reserve(count)
+    }
+
+    /// Gives memory back, but for so many deliveries in all.
+    pub fn shrink_to(&mut self, count: usize)
+        ensures held { self.new.held ≡ self.old.held }
+        ensures room { min count self.old.room ≤ self.new.room }
+    {
+        self.held.shrink_to(count);
     }
 
     /// One more delivery is out.

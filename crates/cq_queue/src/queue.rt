@@ -179,6 +179,13 @@ impl QueueCore {
         self.waiting.len() as u64
     }
 
+    /// Whether a message of this queue is out to this client, under this number among its deliveries.
+    pub fn is_out(&self, client: u32, delivery: u32) -> bool
+        ensures { result ≡ is_out_to client delivery self.now.items }
+    {
+        self.outs.has(client, delivery)
+    }
+
     /// The first message that waits is out to this client, under this number among its deliveries. It takes no memory.
     pub fn deliver(&mut self, client: u32, delivery: u32)
         requires some { 0 < length (waiting_items self.old.items) }

@@ -11,6 +11,9 @@ use crate::slots::close_up;
 use crate::{Holder, Item, QueueCore};
 use std::collections::VecDeque;
 
+/// How many places are empty before it is worth while to close them up.
+const FEWEST_EMPTY: usize = 64;
+
 /// Notes the place of a message that waits.
 fn note_waiting(waiting: &mut VecDeque<usize>, slot: &Option<Item>, at: usize)
     requires { passes waits slot.now ≡ true → length waiting.old.items < deque_capacity waiting.old }
@@ -62,7 +65,12 @@ fn note_settling(gone: &mut Vec<usize>, slot: &Option<Item>, at: usize)
 }
 
 /// Notes afresh which place waits, is out or is to be settled.
-fn renumber(slots: &VecDeque<Option<Item>>, waiting: &mut VecDeque<usize>, outs: &mut Outs, gone: &mut Vec<usize>)
+fn renumber(
+    slots: &VecDeque<Option<Item>>,
+    waiting: &mut VecDeque<usize>,
+    outs: &mut Outs,
+    gone: &mut Vec<usize>,
+)
     requires known { (c d : ℕ) → is_some (find c d outs.old.held) ≡ is_out_to c d (alive slots.now.items) }
     requires once { AreOutOnce (alive slots.now.items) }
     requires waiting_fits { length (waiting_items (alive slots.now.items)) ≤ deque_capacity waiting.old }
@@ -86,12 +94,13 @@ fn renumber(slots: &VecDeque<Option<Item>>, waiting: &mut VecDeque<usize>, outs:
 }
 
 impl QueueCore {
-    /// Closes the empty places up where they are more than half of all.
+    /// Closes the empty places up where they are more than half of all, and gives memory back.
     pub(super) fn tidy(&mut self)
         ensures { self.new ≡ self.old }
     {
-        if self.empty > self.slots.len() / 2 {
+        if self.empty >= FEWEST_EMPTY && self.empty > self.slots.len() / 2 {
             self.pack();
+            self.shrink();
         }
     }
 
@@ -102,7 +111,26 @@ impl QueueCore {
         let undecided = self.slots.len() - self.first;
         close_up(&mut self.slots);
         self.first = self.slots.len() - undecided;
-        renumber(&self.slots, &mut self.waiting, &mut self.outs, &mut self.gone);
+        renumber(
+            &self.slots,
+            &mut self.waiting,
+            &mut self.outs,
+            &mut self.gone,
+        );
         self.empty = 0;
+    }
+
+    /// Gives back the memory that what stands and what is reserved don't need.
+    fn shrink(&mut self)
+        ensures { self.new ≡ self.old }
+    {
+        let slots = self.slots.capacity().min(self.slots.len() + self.reserved);
+        let most = self.waiting.capacity();
+        let held = most.min(self.waiting.len() + self.outs.len() + self.reserved);
+        let gone = self.gone.capacity().min(self.gone.len() + held);
+        self.slots.shrink_to(slots);
+        self.waiting.shrink_to(held);
+        self.outs.shrink_to(held);
+        self.gone.shrink_to(gone);
     }
 }

@@ -1,6 +1,5 @@
-use Rattle.std.proofs.Common.{◌≡◌, List, true, subst, sym, ap, get_or}
+use Rattle.std.proofs.Common.{List, subst}
 use Rattle.std.specs.Prelude.{Some}
-use Rattle.std.proofs.lemmas.List.{get_or_default}
 use Rattle.cq_queue.specs.declared.outs.Held.{Held}
 use Rattle.cq_queue.specs.Outs.{StandsAt}
 use Rattle.cq_queue.proofs.Find.{sorted-moved, puts-moved}

@@ -1,4 +1,4 @@
-use Rattle.std.proofs.Common.{◌≡◌, List, length, sym, ap, ◌∙◌, subst, arith, length-set, refl, false}
+use Rattle.std.proofs.Common.{◌≡◌, List, length, sym, ap, ◌∙◌, subst, arith, length-set}
 use Rattle.std.specs.Prelude.{Option, option_map}
 use Rattle.cq_queue.specs.declared.item.Item.{Item}
 use Rattle.cq_queue.specs.Items.{decide, MayKeep, undecided_items}

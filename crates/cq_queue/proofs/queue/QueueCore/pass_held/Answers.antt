@@ -1,10 +1,8 @@
-use Rattle.std.proofs.Common.{◌≡◌, true, List, ap, ◌∙◌, refl, subst}
-use Rattle.std.specs.Prelude.{◌||◌}
+use Rattle.std.proofs.Common.{true, List, ap, ◌∙◌, subst}
 use Rattle.cq_queue.specs.declared.item.Item.{Item}
 use Rattle.cq_queue.specs.declared.item.Holder.{Holder}
 use Rattle.cq_queue.specs.declared.item.Holder.TheVariants.{Gone}
 use Rattle.cq_queue.specs.Items.{IsHeldBy, undecided_items}
-use Rattle.cq_queue.specs.Queue.{Queue}
 use Rattle.cq_queue.proofs.Decided.{pass-as, or-true}
 use Rattle.cq_queue.proofs.queue.QueueCore.pass_held.Goals as goal
 
