@@ -1,0 +1,13 @@
+//! A queue in memory: its messages in order, and who has each.
+#![tactic(auto)]
+
+mod item;
+mod outs;
+mod queue;
+mod slots;
+
+pub use item::{First, Holder, Item, Passed};
+pub use queue::QueueCore;
+
+#[cfg(test)]
+mod tests;

@@ -1,0 +1,239 @@
+// A queue in memory.
+ghost use Rattle.cq_queue.specs.Items.{ack, committed, first_of, give_back, hand_out, is_out_to, kind_of, new_item, waiting_items};
+ghost use Rattle.cq_queue.specs.Slots.{passes};
+ghost use Rattle.cq_queue.specs.Queue.{GaveOne, IsPlace, IsRising};
+ghost use Rattle.std.specs.List.{insert};
+ghost use Rattle.std.specs.Option.{option_copied};
+ghost use Rattle.std.specs.VecDeque.{deque_capacity};
+ghost use Rattle.std.specs.Prelude.{length, map, slice_get, ◌≡◌, ◌<◌, ◌≤◌, ◌+◌, ◌++◌, ◌∷◌, [], false, if◌then◌else◌, vec_capacity, OnOk, OnErr};
+
+mod deciding;
+mod packing;
+mod settling;
+
+use crate::outs::Outs;
+use crate::slots::set_holder;
+use crate::{First, Holder, Item};
+use cq_bytes::Body;
+use cq_entry::EntryKind;
+use std::alloc::{AllocError, Global};
+use std::collections::VecDeque;
+use std::marker::Model;
+
+/// A queue in memory. A contract sees its messages in line order, and for how many more there is room.
+#[derive(Debug, Drop)]
+pub struct QueueCore {
+    /// A place for each message, in line order. Places of messages that have left are empty.
+    slots: VecDeque<Option<Item>>,
+    /// The places of what waits, rising.
+    waiting: VecDeque<usize>,
+    outs: Outs,
+    /// The places of what is committed and acknowledged.
+    gone: Vec<usize>,
+    /// The place from which on nothing is decided.
+    first: usize,
+    /// How many places were emptied since they were closed up last; it only tells when to do so again.
+    empty: usize,
+    reserved: usize,
+}
+
+impl Model for QueueCore {
+    ghost use Rattle.std.specs.Prelude.{length, vec_capacity};
+    ghost use Rattle.std.specs.VecDeque.{deque_capacity};
+    ghost use Rattle.cq_queue.specs.Slots.{alive};
+    ghost use Rattle.cq_queue.specs.Queue.{Queue, IsIndexed, HasRoom};
+
+    ghost Value = { Queue };
+
+    ghost view = { λ q. record { items = alive q.slots.items; reserved = q.reserved } };
+
+    ghost invariant = { λ q. IsIndexed q.slots.items q.waiting.items q.outs.held q.gone.items q.first
+        × HasRoom (length q.slots.items) (length q.waiting.items) (length q.outs.held) (length q.gone.items) q.reserved (deque_capacity q.slots) (deque_capacity q.waiting) q.outs.room (vec_capacity q.gone) };
+}
+
+/// Where a place belongs among those that wait.
+fn place_among(waiting: &VecDeque<usize>, at: usize) -> usize
+    requires { IsRising waiting.now.items }
+    ensures { IsPlace waiting.now.items at result }
+{
+    match waiting.binary_search(&at) {
+        Ok(place) => place,
+        Err(place) => place,
+    }
+}
+
+/// Puts a place among those that wait.
+fn put_at(waiting: &mut VecDeque<usize>, place: usize, at: usize)
+    requires within { place ≤ length waiting.old.items }
+    requires room { length waiting.old.items < deque_capacity waiting.old }
+    ensures items { waiting.new.items ≡ insert waiting.old.items place at }
+    ensures capacity { deque_capacity waiting.old ≤ deque_capacity waiting.new }
+{
+    match waiting.insert(place, at) {
+        Ok(()) => {}
+        Err(_) => {}
+    }
+}
+
+/// How a message with this body is stored: small where the body was given.
+fn kind_of(body: &Option<Body>) -> EntryKind
+    ensures { result ≡ kind_of body.now }
+{
+    match body {
+        Some(_) => EntryKind::Small,
+        None => EntryKind::Shared,
+    }
+}
+
+/// Notes the place of a message that is acknowledged, where its entry is committed.
+fn note_gone(gone: &mut Vec<usize>, slot: &Option<Item>, at: usize)
+    requires { length gone.old.items < vec_capacity gone.old }
+    ensures items { gone.new.items ≡ (if passes committed slot.now then gone.old.items ++ at ∷ [] else gone.old.items) }
+    ensures capacity { vec_capacity gone.new ≡ vec_capacity gone.old }
+{
+    if let Some(item) = slot {
+        if item.committed {
+            gone.push_reserved(at);
+        }
+    }
+}
+
+impl QueueCore {
+    /// A queue without messages. It takes no memory.
+    pub fn new(alloc: Global) -> QueueCore
+        ensures { result ≡ record { items = []; reserved = 0 } }
+    {
+        QueueCore {
+            slots: VecDeque::new(alloc),
+            waiting: VecDeque::new(alloc),
+            outs: Outs::new(alloc),
+            gone: Vec::new(alloc),
+            first: 0,
+            empty: 0,
+            reserved: 0,
+        }
+    }
+
+    /// Takes the memory for one more message, whatever happens to it. Where memory runs out nothing has changed.
+    pub fn reserve(&mut self) -> Result<(), AllocError>
+        ensures ok { OnOk result (self.new ≡ record self.old { reserved = 1 }) }
+        ensures err { OnErr result (self.new ≡ self.old) }
+    {
+        let open = self.outs.len();
+        let waiting = self.waiting.len();
+        self.slots.reserve(1)?;
+        self.waiting.reserve(open + 1)?;
+        self.outs.reserve(waiting + 1)?;
+        self.gone.reserve(waiting + open + 1)?;
+        self.reserved = 1;
+        Ok(())
+    }
+
+    /// Adds a message at the end of the queue; its entry is undecided. A small one is given its body. It takes no memory.
+    pub fn publish(&mut self, id: u128, body: Option<Body>, len: u32)
+        requires { 0 < self.old.reserved }
+        ensures { self.new ≡ record { items = self.old.items ++ new_item id body len ∷ []; reserved = 0 } }
+    {
+        let at = self.slots.len();
+        let kind = kind_of(&body);
+        self.slots.push_back_reserved(Some(Item {
+            id,
+            kind,
+            len,
+            body,
+            committed: false,
+            holder: Holder::Waiting,
+        }));
+        self.waiting.push_back_reserved(at);
+        self.reserved = 0;
+    }
+
+    /// The message that is handed out next. `None` exactly where nothing waits.
+    pub fn first_item(&self) -> Option<&Item>
+        ensures { option_copied result ≡ slice_get (waiting_items self.now.items) 0 }
+    {
+        match self.waiting.front() {
+            Some(at) => self.slots[*at].as_ref(),
+            None => None,
+        }
+    }
+
+    /// What is told of the message that is handed out next. `None` exactly where nothing waits.
+    pub fn first_waiting(&self) -> Option<First>
+        ensures { result ≡ slice_get (map first_of (waiting_items self.now.items)) 0 }
+    {
+        match self.first_item() {
+            Some(item) => Some(First {
+                id: item.id,
+                kind: item.kind,
+                len: item.len,
+            }),
+            None => None,
+        }
+    }
+
+    /// How many messages wait.
+    pub fn waiting(&self) -> u64
+        ensures { result ≡ length (waiting_items self.now.items) }
+    {
+        self.waiting.len() as u64
+    }
+
+    /// Whether a message of this queue is out to this client, under this number among its deliveries.
+    pub fn is_out(&self, client: u32, delivery: u32) -> bool
+        ensures { result ≡ is_out_to client delivery self.now.items }
+    {
+        self.outs.has(client, delivery)
+    }
+
+    /// The first message that waits is out to this client, under this number among its deliveries. It takes no memory.
+    pub fn deliver(&mut self, client: u32, delivery: u32)
+        requires some { 0 < length (waiting_items self.old.items) }
+        requires fresh { is_out_to client delivery self.old.items ≡ false }
+        ensures { self.new ≡ record self.old { items = hand_out client delivery self.old.items } }
+    {
+        match self.waiting.pop_front() {
+            Some(at) => {
+                set_holder(&mut self.slots, at, Holder::Out { client, delivery });
+                self.outs.put(client, delivery, at);
+            }
+            None => {}
+        }
+    }
+
+    /// The message of this delivery is acknowledged. Nothing happens where the delivery isn't out. It takes no memory.
+    pub fn acked(&mut self, client: u32, delivery: u32)
+        ensures { self.new ≡ record self.old { items = ack client delivery self.old.items } }
+    {
+        match self.outs.take(client, delivery) {
+            Some(at) => {
+                note_gone(&mut self.gone, &self.slots[at], at);
+                set_holder(&mut self.slots, at, Holder::Gone);
+            }
+            None => {}
+        }
+    }
+
+    /// Every delivery that is out to the client goes back to its old place. It takes no memory.
+    pub fn give_back(&mut self, client: u32)
+        ensures { self.new ≡ record self.old { items = give_back client self.old.items } }
+    {
+        while self.give_one(client) {}
+    }
+
+    /// One delivery that is out to the client goes back. False exactly where none is out to it.
+    fn give_one(&mut self, client: u32) -> bool
+        ensures { GaveOne client result self.old self.new }
+    {
+        match self.outs.take_of(client) {
+            Some(held) => {
+                let at = held.at;
+                set_holder(&mut self.slots, at, Holder::Waiting);
+                let place = place_among(&self.waiting, at);
+                put_at(&mut self.waiting, place, at);
+                true
+            }
+            None => false,
+        }
+    }
+}
