@@ -1,13 +1,13 @@
 -- Before the first move each record stands alone behind its hole.
-use Rattle.std.proofs.Common.{◌≡◌, ℕ, ◌+◌, ◌-◌, ◌≤◌, ◌<◌, ◌^◌, Bool, true, false, cond, List, [], ◌∷◌, ◌++◌, map, length, refl, sym, ap, subst, ◌∙◌, arith}
+use Rattle.std.proofs.Common.{◌≡◌, ℕ, ◌+◌, ◌-◌, Bool, true, false, cond, List, [], ◌∷◌, ◌++◌, map, refl, sym, ap, subst}
 use Rattle.std.specs.Prelude.{filter}
 use Rattle.std.specs.List.Sorted.{IsPermutation}
 use Rattle.std.proofs.lemmas.List.Sorted.{IsPermutation-refl}
 use Rattle.cq_block.specs.declared.layout.Block.{Block}
 use Rattle.cq_block.specs.declared.layout.Move.{Move}
-use Rattle.cq_pack.specs.Packing.{fits_hole, Packs, end_of, source, standing, live_of, AreSpaced, AreWhole, AreBelow, AreBlocks, ArePackable, CanPack}
+use Rattle.cq_pack.specs.Packing.{Packs, source, standing, live_of, AreSpaced, AreWhole, AreBelow, AreBlocks, ArePackable, CanPack}
 use Rattle.cq_pack.specs.Holes.{starts_before, sizes_before}
-use Rattle.cq_pack.proofs.Groups.{Group, size, flat_on, inners_on, none, IsGroup, AreGroups}
+use Rattle.cq_pack.proofs.Groups.{Group, size, flat_on, inners_on, none, AreGroups}
 use Rattle.cq_pack.proofs.Going.{Going, rec_of, start_of}
 
 abbrev groups_of : ℕ → List Move → List Group

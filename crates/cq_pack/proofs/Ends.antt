@@ -1,7 +1,7 @@
 -- Lists by their last element, and what a packing says of the last record.
-use Rattle.std.proofs.Common.{◌≡◌, ℕ, ◌+◌, ◌<◌, List, [], ◌∷◌, ◌++◌, length, Option, None, Some, refl, sym, ap, subst, ◌∙◌, arith, length-append}
+use Rattle.std.proofs.Common.{◌≡◌, ℕ, ◌+◌, ◌<◌, List, [], ◌∷◌, ◌++◌, length, None, Some, refl, sym, ap, subst, ◌∙◌, arith, length-append}
 use Rattle.cq_block.specs.declared.layout.Move.{Move}
-use Rattle.cq_pack.specs.Packing.{lowest_hole, with_placed, last_of, front_of, target_of_last, Packs, done, more, end_of}
+use Rattle.cq_pack.specs.Packing.{lowest_hole, with_placed, last_of, front_of, Packs, done, more, end_of}
 
 -- a list as a front and a last element
 pub record Snoc {A : Type 0} (xs : List A) : Type 0 where

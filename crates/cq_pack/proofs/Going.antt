@@ -1,13 +1,13 @@
 -- What holds while the records of a file are packed, one move after another.
-use Rattle.std.proofs.Common.{◌≡◌, ◌≢◌, ℕ, zero, suc, ◌+◌, ◌-◌, ◌≤◌, ◌<◌, ◌^◌, Bool, true, false, cond, List, [], ◌∷◌, ◌++◌, map, length, reverse, get_or, set, Option, None, Some, refl, sym, ap, subst, ◌∙◌, arith, append_assoc, length-append}
+use Rattle.std.proofs.Common.{◌≡◌, ◌≢◌, ℕ, zero, suc, ◌+◌, ◌-◌, ◌≤◌, ◌<◌, Bool, true, false, List, [], ◌∷◌, ◌++◌, map, length, reverse, get_or, set, None, Some, refl, sym, ap, subst, ◌∙◌, arith, append_assoc}
 use Rattle.std.proofs.lemmas.List.{map-append, reverse-append, length-map}
 use Rattle.std.specs.List.Sorted.{IsPermutation}
 use Rattle.std.proofs.lemmas.List.Sorted.{IsPermutation-refl, IsPermutation-sym, IsPermutation-cons, IsPermutation-trans, IsPermutation-middle, IsPermutation-append_left, IsPermutation-append_right, IsPermutation-append_comm, IsPermutation-to_front, IsPermutation-reverse}
 use Rattle.cq_block.specs.declared.layout.Move.{Move}
 use Rattle.cq_pack.specs.Packing.{fits_hole, lowest_hole, with_placed, last_of, Packs, end_of, source, IsPacking}
 use Rattle.cq_pack.specs.Holes.{IsLowest}
-use Rattle.cq_pack.proofs.Ends.{Snoc, snoc, ends, same_ends, end_of-snoc, more_end, done_end}
-use Rattle.cq_pack.proofs.Groups.{Group, Split, size, flat_on, end_on, takes_on, inners_on, none, Fills, AreBarred, IsGroup, AreGroups, Are, Takes, Refuse, filled, reach, fits_within, lowest_takes, lowest_refused, lowest_barred, placed, kept, starts_of-filled, sizes_of-filled, recs_of-filled, inners_of-filled, some_left}
+use Rattle.cq_pack.proofs.Ends.{ends, same_ends, end_of-snoc, more_end, done_end}
+use Rattle.cq_pack.proofs.Groups.{Group, Split, size, flat_on, end_on, takes_on, inners_on, none, Fills, AreBarred, AreGroups, Are, Takes, Refuse, filled, reach, lowest_takes, lowest_refused, lowest_barred, placed, kept, starts_of-filled, sizes_of-filled, recs_of-filled, inners_of-filled, some_left}
 
 abbrev pub rec_of : Group → Move
 rec_of g = g.rec

@@ -1,5 +1,5 @@
 -- One move of the last record that stands, as the code makes it.
-use Rattle.std.proofs.Common.{◌≡◌, ◌≢◌, ℕ, zero, suc, ◌+◌, ◌-◌, ◌≤◌, ◌<◌, ◌^◌, Bool, true, false, List, [], ◌∷◌, ◌++◌, map, length, reverse, get_or, set, take, Result, Ok, Err, IfOk, refl, sym, ap, subst, ◌∙◌, arith, length-append}
+use Rattle.std.proofs.Common.{◌≡◌, ◌≢◌, ℕ, zero, suc, ◌+◌, ◌-◌, ◌≤◌, ◌<◌, ◌^◌, Bool, List, [], ◌∷◌, ◌++◌, length, reverse, get_or, set, take, Result, Ok, Err, IfOk, sym, ap, subst, ◌∙◌, arith, length-append}
 use Rattle.std.proofs.lemmas.List.{take_more, length-map, length-set, get_or_default}
 use Rattle.std.proofs.Math.Seq.{take-length}
 use Rattle.std.specs.declared.alloc.AllocError.{AllocError}
@@ -7,7 +7,7 @@ use Rattle.cq_block.specs.declared.layout.Move.{Move}
 use Rattle.cq_pack.specs.declared.Packing.{Packing}
 use Rattle.cq_pack.specs.Packing.{fits_hole, end_of, IsPacking}
 use Rattle.cq_pack.specs.Holes.{IsLowest, NoneTakes}
-use Rattle.cq_pack.proofs.Groups.{Group, Split, size, end_on, takes_on, none, AreGroups, Are, Takes}
+use Rattle.cq_pack.proofs.Groups.{Group, size, end_on, none, AreGroups, Takes}
 use Rattle.cq_pack.proofs.Going.{Going, Open, After, rec_of, start_of, opened, stopped, after, goes_on, moved_last, takes_from, end_of-recs}
 
 -- a list by its last element

@@ -1,11 +1,11 @@
-use Rattle.std.proofs.Common.{◌≡◌, ◌≢◌, ℕ, ◌+◌, ◌-◌, ◌<◌, ◌≤◌, ◌^◌, List, [], ◌∷◌, ◌++◌, length, vec_len, get_or, set, reverse, take, sym, ap, subst, ◌∙◌, arith, rules}
+use Rattle.std.proofs.Common.{◌≡◌, ◌≢◌, ℕ, ◌+◌, ◌-◌, List, [], ◌∷◌, ◌++◌, length, vec_len, get_or, set, reverse, take, sym, ap, subst, ◌∙◌, arith, rules}
 use Rattle.std.proofs.lemmas.List.{get_or_default, length-set}
 use Rattle.cq_block.specs.declared.layout.Move.{Move}
-use Rattle.cq_pack.specs.Packing.{ArePackable, IsPacking, end_of}
+use Rattle.cq_pack.specs.Packing.{IsPacking, end_of}
 use Rattle.cq_pack.specs.Holes.{starts_before, sizes_before, IsLowest, NoneTakes}
 use Rattle.cq_pack.proofs.Begun.{begun}
 use Rattle.cq_pack.proofs.Going.{Going}
-use Rattle.cq_pack.proofs.Moves.{front, last, Bounds, bounds, is_last, moved_is, moved_to, start_below, stops, Turn, turn_stops, turn_goes, answered}
+use Rattle.cq_pack.proofs.Moves.{front, last, Bounds, bounds, is_last, start_below, stops, Turn, turn_stops, turn_goes, answered}
 use Rattle.cq_pack.proofs.settle.settle.Goals as goal
 
 pub moves-init : goal.moves-init

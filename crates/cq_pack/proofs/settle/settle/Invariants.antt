@@ -1,4 +1,4 @@
-use Rattle.std.proofs.Common.{ℕ, length}
+use Rattle.std.proofs.Common.{length}
 use Rattle.cq_pack.proofs.Going.{Going}
 use Rattle.cq_pack.proofs.settle.settle.Given as goal
 

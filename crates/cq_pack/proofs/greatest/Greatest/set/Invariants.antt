@@ -1,4 +1,4 @@
-use Rattle.std.proofs.Common.{◌≡◌, ℕ, ◌^◌, drop, set}
+use Rattle.std.proofs.Common.{◌≡◌, ◌^◌, drop, set}
 use Rattle.cq_pack.proofs.Trees.{IsMended}
 use Rattle.cq_pack.proofs.greatest.Greatest.set.Given as goal
 

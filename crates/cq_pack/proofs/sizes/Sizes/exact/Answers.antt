@@ -1,5 +1,5 @@
-use Rattle.std.proofs.Common.{◌≡◌, ℕ, ◌≤◌, ◌%◌, ◌^◌, true, false, List, Option, None, sym, ap, subst, ◌∙◌}
-use Rattle.cq_pack.specs.Holes.{NoneIs, IsFirstOf, hole_key}
+use Rattle.std.proofs.Common.{◌≡◌, ℕ, ◌≤◌, ◌%◌, ◌^◌, true, false, sym, subst, ◌∙◌}
+use Rattle.cq_pack.specs.Holes.{NoneIs, IsFirstOf}
 use Rattle.std.specs.Ordering.{nat_cmp}
 use Rattle.std.specs.BTreeSet.{contains}
 use Rattle.std.specs.Option.{MatchOption}

@@ -1,4 +1,4 @@
-use Rattle.std.proofs.Common.{◌≡◌, ℕ, ◌≤◌, length, take}
+use Rattle.std.proofs.Common.{◌≤◌, length, take}
 use Rattle.cq_pack.specs.Holes.{AreIndexed}
 use Rattle.cq_pack.proofs.sizes.Sizes.of.Given as goal
 
