@@ -26,7 +26,7 @@ ends (m ∷ ms) spaced = all_end 128 m ms spaced
 
 settled_at : (end : ℕ) (ms : List Move) → ComeFrom end ms → EndBy end ms → All (IsSettled end) ms
 settled_at end [] come by k d within = absurd (omega (arith, within))
-settled_at end (m ∷ ms) come by zero d within = record { ends = by.0; from = elim come.0 [ inl e ↦ inl e | inr h ↦ inr h.0 ] }
+settled_at end (m ∷ ms) come by zero d within = record { ends = by.0; down = elim come.0 [ inl e ↦ omega (arith, e) | inr h ↦ h.1 ]; from = elim come.0 [ inl e ↦ inl e | inr h ↦ inr h.0 ] }
 settled_at end (m ∷ ms) come by (suc k) d within = settled_at end ms come.1 by.1 k d (omega (arith, within))
 
 first_after : (start : ℕ) (ms : List Move) (k : ℕ) (d : Move) → AreSpaced start ms → k < length ms → start ≤ (get_or ms k d).to

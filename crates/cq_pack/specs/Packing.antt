@@ -129,9 +129,10 @@ pub record AreApart (a b : Move) : Type 0 where
   pub first : AreParted a.to a.len b.from b.len
   pub second : AreParted b.to b.len a.from a.len
 
--- a record ends at the new end or before; it is where it was, or comes from the new end or beyond
+-- a record ends at the new end or before; it went down or stayed, and comes from the new end or beyond where it went down
 pub record IsSettled (new_end : ℕ) (m : Move) : Type 0 where
   pub ends : m.to + m.len ≤ new_end
+  pub down : m.to ≤ m.from
   pub from : (m.to ≡ m.from) ⊎ (new_end ≤ m.from)
 
 -- what follows for the layers above: each move is settled, and any two are apart; by rising targets there are gaps of no

@@ -64,8 +64,8 @@ pub(crate) fn settle(alloc: Global, records: Vec<Move>) -> Result<Packing, Alloc
         standing.pop();
         starts[hole] = to + last.len;
         sizes.shrink(hole, last.len)?;
-        // A hole lies before each record that stands. Once the last of them went, what was moved into the hole before it
-        // are the last records, if there are any, and fit no lower hole.
+        // The last hole lies before the record that went. If something was moved into it, that is last now: it went to the
+        // lowest hole that might take it, so it fits none before it.
         let new_end = starts[standing.len()];
         if new_end != end(&standing) {
             return packing(standing, moved, new_end);

@@ -40,8 +40,10 @@ fn the_last_record_goes_into_the_first_hole(rt: HostRuntime) -> Result<(), Fail>
     assert_eq!(rt; packing.moves.as_slice(), moves.as_slice());
     assert_eq!(rt; packing.new_end, 428);
     assert_eq!(rt; encode_plan(alloc, &moves)?.len(), 88);
-    let head = filler_head(50);
-    assert_eq!(rt; head[7], 0x29);
+    // The gap from 278 to 328 becomes a filler of 50 bytes.
+    let mut head = [0; 24];
+    head[7] = 0x29;
+    assert_eq!(rt; filler_head(50), head);
     Ok(())
 }
 
