@@ -1,0 +1,10 @@
+pub mod Begun
+pub mod Ends
+pub mod Found
+pub mod Groups
+pub mod Going
+pub mod Keys
+pub mod Moves
+pub mod Trees
+pub mod Spaced
+pub mod Packed

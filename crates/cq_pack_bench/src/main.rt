@@ -1,0 +1,45 @@
+//! Packs files in which live records of many lengths stand among as many dead ones. With an argument it packs large files
+//! and prints the time that each took.
+#![tactic(auto)]
+
+mod file;
+
+ghost use Rattle.std.specs.Prelude.{◌<◌, ◌≤◌};
+
+use cq_pack::pack;
+use std::rt::Clock;
+use std::time::Instant;
+use std::{env, io};
+
+/// Live records of the file that is packed where nothing is timed.
+const FEW: u32 = 1000;
+
+/// Packs a file with so many live records among as many dead ones, and prints where it ends then, and the microseconds
+/// that packing took if they are wanted.
+fn show<R: AllocGlobal + Clock + Print>(rt: &R, count: u32, timed: bool) -> io::Result<()>
+    requires some { 0 < count }
+    requires fits { count ≤ 1000000 }
+{
+    let (blocks, live) = file::file(rt.alloc(), count)?;
+    let start = Instant::now(rt)?;
+    let packing = pack(rt.alloc(), &blocks, &live)?;
+    let spent = start.elapsed(rt)?.as_micros();
+    if timed {
+        println!(rt;
+            "{count} live records end at {} after {spent} us",
+            packing.new_end
+        )
+    } else {
+        println!(rt; "{count} live records end at {}", packing.new_end)
+    }
+}
+
+fn main(rt: HostRuntime) -> io::Result<()> {
+    if env::args(&rt)?.len() <= 1 {
+        return show(&rt, FEW, false);
+    }
+    show(&rt, 12_500, true)?;
+    show(&rt, 25_000, true)?;
+    show(&rt, 50_000, true)?;
+    show(&rt, 100_000, true)
+}
