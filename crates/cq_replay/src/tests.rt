@@ -1,6 +1,6 @@
 // Scripts with their texts, statuses and files.
 use crate::offline;
-use cq_disk::{Kind, Name};
+use cq_disk::{Disk, Kind, Name};
 use cq_io::{MemSink, MemSource, Status};
 use cq_memdisk::MemDisk;
 use std::alloc::{AllocError, Global};
@@ -151,5 +151,52 @@ fn each_status_has_its_cause(rt: HostRuntime) -> Result<(), Fail> {
     let row = replayed(alloc, &["replay"], HELLO, &[], &[], &[1])?;
     assert_eq!(rt; row.status, Status::OutputFault);
     assert_eq!(rt; row.text.as_slice(), b"session 0\n".as_slice());
+    Ok(())
+}
+
+#[test]
+fn a_commit_is_one_append_to_each_file(rt: HostRuntime) -> Result<(), Fail> {
+    // The script, the lengths of the small store and of the index, and how many device calls were made.
+    let rows = [
+        (
+            "client 0\npublish 0 text a\npublish 0 text bc\npublish 0 text d\nschedule c0 t0 c0 t0 c0 t0 w\n",
+            147,
+            224,
+            16,
+        ),
+        (
+            "client 0\npublish 0 text a\npublish 0 text bc\nschedule w c0 t0 w c0 t0 w\n",
+            141,
+            192,
+            26,
+        ),
+        (
+            "client 0\npublish 0 text a\nget 0\nschedule w\n",
+            134,
+            160,
+            16,
+        ),
+        (
+            "client 0\npublish 0 text a\nget 0\nschedule c0 t0 w c0 t0 w\n",
+            134,
+            160,
+            17,
+        ),
+    ];
+    for (script, small_len, index_len, calls) in rows {
+        let row = replayed(rt.alloc(), &["replay"], script.as_bytes(), &[], &[], &[])?;
+        assert_eq!(rt; row.status, Status::Ok);
+        assert_eq!(rt; row.disk.moment(), calls);
+        let Some(small) = row.disk.bytes(file(Kind::Small)) else {
+            assert!(rt; false, "no small store");
+            return Ok(());
+        };
+        let Some(index) = row.disk.bytes(file(Kind::Index)) else {
+            assert!(rt; false, "no index");
+            return Ok(());
+        };
+        assert_eq!(rt; small.len(), small_len);
+        assert_eq!(rt; index.len(), index_len);
+    }
     Ok(())
 }
