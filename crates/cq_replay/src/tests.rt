@@ -174,7 +174,7 @@ fn a_commit_is_one_append_to_each_file(rt: HostRuntime) -> Result<(), Fail> {
             "client 0\npublish 0 text a\nget 0\nschedule w\n",
             134,
             160,
-            16,
+            17,
         ),
         (
             "client 0\npublish 0 text a\nget 0\nschedule c0 t0 w c0 t0 w\n",
