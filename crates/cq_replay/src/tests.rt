@@ -200,3 +200,46 @@ fn a_commit_is_one_append_to_each_file(rt: HostRuntime) -> Result<(), Fail> {
     }
     Ok(())
 }
+
+#[test]
+fn each_line_is_one_put(rt: HostRuntime) -> Result<(), Fail> {
+    // The put that fails, and what the sink took before it.
+    let rows = [
+        (0, ""),
+        (1, "session 0\n"),
+        (2, "session 0\nc0 published 0\n"),
+        (3, "session 0\nc0 published 0\nc0 got 0 q0 5 text hello\n"),
+        (
+            4,
+            "session 0\nc0 published 0\nc0 got 0 q0 5 text hello\nc0 confirmed 0\n",
+        ),
+    ];
+    for (put, text) in rows {
+        let row = replayed(rt.alloc(), &["replay"], HELLO, &[], &[], &[put])?;
+        assert_eq!(rt; row.status, Status::OutputFault);
+        assert_eq!(rt; row.text.as_slice(), text.as_bytes());
+    }
+    Ok(())
+}
+
+#[test]
+fn the_state_after_each_word_is_kept(rt: HostRuntime) -> Result<(), Fail> {
+    let alloc = rt.alloc();
+    let mut source = MemSource::new(HELLO.to_vec(alloc)?, Vec::new(alloc));
+    let mut sink = MemSink::new(alloc, Vec::new(alloc));
+    let disk = MemDisk::new(alloc, Vec::new(alloc));
+    let outcome = offline(alloc, &["replay"], &mut source, disk, &mut sink);
+    let [session] = outcome.sessions.as_slice() else {
+        assert!(rt; false, "another number of sessions");
+        return Ok(());
+    };
+    // The opening; a publish; its confirm; a get, which reads the small store.
+    let after = [(1, 0), (2, 0), (3, 16), (3, 16), (4, 17)];
+    assert_eq!(rt; session.after.len(), after.len());
+    for k in 0..after.len() {
+        let (entries, moment) = after[k];
+        assert_eq!(rt; session.after[k].entries, entries);
+        assert_eq!(rt; session.after[k].moment, moment);
+    }
+    Ok(())
+}
