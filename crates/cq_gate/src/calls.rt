@@ -44,7 +44,7 @@ impl Gate {
         requires bare { D.tells → self.old.len ≤ 128 → IsThere (D.files disk.old self.old.name) (λ f. f.most ≤ 128) }
         ensures old_end { IfOk result (λ end. end ≡ self.old.end) }
         ensures end { OnOk result (self.new.end ≡ self.old.end + length bytes.now) }
-        ensures plan_len { OnOk result (self.new.plan_len ≡ 0) }
+        ensures plan_len { self.new.plan_len ≡ 0 }
         ensures len { OnOk result (self.new.len ≡ max (max self.old.len 128) self.new.end) }
         ensures name { self.new.name ≡ self.old.name }
         ensures gate { OnOk result (D.tells → IsThere (D.files disk.new self.old.name) (IsGate self.new)) }
