@@ -1,13 +1,12 @@
 -- The records of files as parts of all records.
-use Rattle.std.proofs.Common.{◌≡◌, ◌≢◌, ℕ, ◌+◌, ◌-◌, ◌≤◌, Bool, true, false, cond, List, [], ◌∷◌, map, length, Option, None, Some, IsSome, is_some, unwrap_or, refl, sym, ap, subst, ◌∙◌, nat_eq, arith}
+use Rattle.std.proofs.Common.{◌≡◌, ℕ, ◌+◌, ◌≤◌, Bool, true, false, cond, List, [], ◌∷◌, map, length, Option, None, Some, IsSome, is_some, unwrap_or, refl, sym, ap, ◌∙◌, nat_eq, arith}
 use Rattle.std.specs.Option.{option_map_or}
-use Rattle.std.specs.declared.cmp.Ordering.TheVariants.{Equal}
 use Rattle.std.specs.Ordering.{nat_cmp}
 use Rattle.std.proofs.lemmas.Bool.Decides.{nat_tests}
 use Rattle.std.specs.FinMap.{FinMap, nat_cmp-IsAntisymmetric, empty, insert, remove, get, entries, get-empty, get-retain_keys, len-entries, len-empty, empty_of_len}
 use Rattle.cq_map.specs.Totals.{sum_of, total}
 use Rattle.cq_map.proofs.Seen.{turned}
-use Rattle.cq_map.proofs.Totals.{itself, equal, get_put, get_without, alike, remove_absent, insert_removed, remove_inserted, insert_same, get_removed, get_inserted, total-insert, total-remove}
+use Rattle.cq_map.proofs.Totals.{itself, equal, get_put, get_without, alike, remove_absent, insert_removed, remove_inserted, get_removed, get_inserted, total-insert, total-remove}
 use Rattle.cq_table.specs.declared.Place.{Place}
 use Rattle.cq_table.specs.Located.{IsByFile}
 use Rattle.cq_table.specs.Records.{Places, block_of, blocks_of, whole_len, len_at, stands_in, in_file, live_bytes, records_at, ChangesFile}
