@@ -18,10 +18,10 @@ twice : {A : Type 0} (b : Bool) (x y z : A) → cond b x (cond b y z) ≡ cond b
 twice true x y z = refl
 twice false x y z = refl
 
-itself : (k : ℕ) → nat_eq k k ≡ true
+pub itself : (k : ℕ) → nat_eq k k ≡ true
 itself k = grind (arith, nat_tests)
 
-equal : (a b : ℕ) → nat_eq a b ≡ true → b ≡ a
+pub equal : (a b : ℕ) → nat_eq a b ≡ true → b ≡ a
 equal a b h = grind (arith, nat_tests)
 
 module _ {V : Type 0} where

@@ -3,6 +3,7 @@ use Rattle.std.proofs.Common.{◌≡◌, ℕ, ◌+◌, ◌-◌, Bool, true, fals
 use Rattle.std.specs.Prelude.{filter}
 use Rattle.std.specs.List.Sorted.{IsPermutation}
 use Rattle.std.proofs.lemmas.List.Sorted.{IsPermutation-refl}
+use Rattle.std.proofs.lemmas.List.{append-nil}
 use Rattle.cq_block.specs.declared.layout.Block.{Block}
 use Rattle.cq_block.specs.declared.layout.Move.{Move}
 use Rattle.cq_pack.specs.Packing.{Packs, source, standing, live_of, AreSpaced, AreWhole, AreBelow, AreBlocks, ArePackable, CanPack}
@@ -39,10 +40,6 @@ inners : (start : ℕ) (ms : List Move) → inners_on (groups_of start ms) [] �
 inners start [] = refl
 inners start (m ∷ ms) = inners (m.to + m.len) ms
 
-append_none : (xs : List Move) → xs ++ [] ≡ xs
-append_none [] = refl
-append_none (x ∷ xs) = ap (λ l. x ∷ l) (append_none xs)
-
 pub begun : (records : List Move) → ArePackable records → Going records records [] (starts_before 128 records) (sizes_before 128 records)
 begun records are = record {
   groups = groups_of 128 records;
@@ -53,7 +50,7 @@ begun records are = record {
   sizes_are = sizes 128 records;
   moved_are = subst (λ l. IsPermutation l []) (sym (inners 128 records)) (IsPermutation-refl []);
   packs = λ end packs. subst (λ l. Packs l end) (flat 128 records) packs;
-  sources = ap (map source) (append_none records);
+  sources = ap (map source) (append-nil records);
 }
 
 below : (p : Block → Bool) (start : ℕ) (bs : List Block) → AreBlocks start bs → AreBelow (map standing (filter p bs))

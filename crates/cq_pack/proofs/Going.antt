@@ -1,6 +1,6 @@
 -- What holds while the records of a file are packed, one move after another.
 use Rattle.std.proofs.Common.{◌≡◌, ◌≢◌, ℕ, zero, suc, ◌+◌, ◌-◌, ◌≤◌, ◌<◌, Bool, true, false, List, [], ◌∷◌, ◌++◌, map, length, reverse, get_or, set, None, Some, refl, sym, ap, subst, ◌∙◌, arith, append_assoc}
-use Rattle.std.proofs.lemmas.List.{map-append, reverse-append, length-map}
+use Rattle.std.proofs.lemmas.List.{append-nil, map-append, reverse-append, length-map}
 use Rattle.std.specs.List.Sorted.{IsPermutation}
 use Rattle.std.proofs.lemmas.List.Sorted.{IsPermutation-refl, IsPermutation-sym, IsPermutation-cons, IsPermutation-trans, IsPermutation-middle, IsPermutation-append_left, IsPermutation-append_right, IsPermutation-append_comm, IsPermutation-to_front, IsPermutation-reverse}
 use Rattle.cq_block.specs.declared.layout.Move.{Move}
@@ -54,12 +54,8 @@ flat_on-snoc : (gs : List Group) (g : Group) → flat_on (gs ++ g ∷ []) [] ≡
 flat_on-snoc [] g = refl
 flat_on-snoc (h ∷ hs) g = ap (λ l. h.inner ++ (h.rec ∷ l)) (flat_on-snoc hs g)
 
-append_none : (xs : List Move) → xs ++ [] ≡ xs
-append_none [] = refl
-append_none (x ∷ xs) = ap (λ l. x ∷ l) (append_none xs)
-
 inners_on-snoc : (gs : List Group) (g : Group) → inners_on (gs ++ g ∷ []) [] ≡ inners_on gs g.inner
-inners_on-snoc [] g = append_none g.inner
+inners_on-snoc [] g = append-nil g.inner
 inners_on-snoc (h ∷ hs) g = ap (λ l. h.inner ++ l) (inners_on-snoc hs g)
 
 pub opened : (records standing moved front : List Move) (x : Move) (starts sizes : List ℕ) → Going records standing moved starts sizes → standing ≡ front ++ x ∷ [] → Open records front x moved starts sizes

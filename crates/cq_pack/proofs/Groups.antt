@@ -6,6 +6,7 @@ use Rattle.std.specs.List.Sorted.{IsPermutation}
 use Rattle.std.proofs.lemmas.Bool.Decides.{nat_tests}
 use Rattle.std.proofs.lemmas.List.Sorted.{IsPermutation-sym, IsPermutation-trans, IsPermutation-middle, IsPermutation-append_right, IsPermutation-to_front}
 use Rattle.cq_block.specs.declared.layout.Move.{Move}
+use Rattle.cq_pack.proofs.Spaced.{hole_size, before_it, not_before}
 use Rattle.cq_pack.specs.Packing.{fits_hole, lowest_hole, with_placed}
 
 -- what was moved into a hole, where the rest of the hole begins, and the record behind it
@@ -99,16 +100,9 @@ or_right : (a b : Bool) → (a || b) ≡ false → b ≡ false
 or_right true b h = let e : true ≡ false = h in cc
 or_right false b h = h
 
-fits_cases : (len size : ℕ) → fits_hole len size ≡ true → (size ≡ len) ⊎ (len + 25 ≤ size)
-fits_cases len size fits = by (size == len) refl
-  where
-    by : (b : Bool) → (size == len) ≡ b → (size ≡ len) ⊎ (len + 25 ≤ size)
-    by true e = inl (grind (arith, nat_tests))
-    by false e = inr (grind (arith, nat_tests))
-
 -- a hole that takes a record isn't smaller
 pub fits_within : (len size : ℕ) → fits_hole len size ≡ true → len ≤ size
-fits_within len size fits = elim (fits_cases len size fits) [ inl e ↦ omega arith | inr h ↦ omega arith ]
+fits_within len size fits = elim (hole_size len size fits) [ inl e ↦ omega arith | inr h ↦ omega arith ]
 
 no_room : (len size : ℕ) → 25 ≤ len → size ≡ 0 → fits_hole len size ≡ false
 no_room len size long none = grind (arith, nat_tests)
@@ -116,12 +110,6 @@ no_room len size long none = grind (arith, nat_tests)
 -- what doesn't fit a hole doesn't fit what is left of it
 shrunk : (len size gone : ℕ) → 25 ≤ len → 25 ≤ gone → gone ≤ size → fits_hole len size ≡ false → fits_hole len (size - gone) ≡ false
 shrunk len size gone long some within h = grind (arith, nat_tests)
-
-not_before : (a b : ℕ) → b ≤ a → nat_lt a b ≡ false
-not_before a b h = grind (arith, nat_tests)
-
-before_it : (a b : ℕ) → a < b → nat_lt a b ≡ true
-before_it a b h = grind (arith, nat_tests)
 
 -- the lowest hole
 

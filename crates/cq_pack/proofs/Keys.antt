@@ -6,6 +6,7 @@ use Rattle.std.specs.BTreeSet.{BTreeSet, contains}
 use Rattle.std.proofs.lemmas.Bool.{cases_eq}
 use Rattle.std.proofs.lemmas.Bool.Decides.{nat_tests}
 use Rattle.std.proofs.lemmas.List.{length-set, get_or-set_same, get_or-set_other}
+use Rattle.cq_pack.proofs.Spaced.{before_it, not_before}
 use Rattle.cq_pack.specs.Holes.{hole_key, is_key, IsFirstOf, NoneIs, AreIndexed}
 
 both_true : (a b : Bool) → a ≡ true → b ≡ true → (a && b) ≡ true
@@ -24,9 +25,6 @@ is_less a b h = grind (arith, nat_tests)
 
 at_least : (a b : ℕ) → nat_lt a b ≡ false → b ≤ a
 at_least a b h = grind (arith, nat_tests)
-
-less_is : (a b : ℕ) → a < b → nat_lt a b ≡ true
-less_is a b h = grind (arith, nat_tests)
 
 is_same : (a b : ℕ) → (a == b) ≡ true → a ≡ b
 is_same a b h = grind (arith, nat_tests)
@@ -48,7 +46,7 @@ key_there sizes values keys hole are within =
     let place = place_of size hole few in
     are.keyed (hole_key size hole)
     ∙ both_true (nat_lt (hole_key size hole % 2 ^ 64) (length sizes)) (get_or sizes (hole_key size hole % 2 ^ 64) 0 == hole_key size hole / 2 ^ 64)
-    (less_is (hole_key size hole % 2 ^ 64) (length sizes) (omega (arith, place, within)))
+    (before_it (hole_key size hole % 2 ^ 64) (length sizes) (omega (arith, place, within)))
     (same_is (get_or sizes (hole_key size hole % 2 ^ 64) 0) (hole_key size hole / 2 ^ 64) (ap (λ n. get_or sizes n 0) place ∙ sym (size_of size hole few)))
 
 -- a key is that of a hole
@@ -123,9 +121,6 @@ and_false : (a b : Bool) → a ≡ false → (a && b) ≡ false
 and_false true b h = let e : true ≡ false = h in cc
 and_false false b h = refl
 
-not_less : (a b : ℕ) → b ≤ a → nat_lt a b ≡ false
-not_less a b h = grind (arith, nat_tests)
-
 not_same : (a b : ℕ) → a ≢ b → (a == b) ≡ false
 not_same a b h = grind (arith, nat_tests)
 
@@ -164,13 +159,13 @@ changed_indexed sizes values keys keys' hole new are within other changed = reco
         changed q
         ∙ ap (λ t. cond t false (cond (nat_eq (hole_key new hole) q) true (contains nat_cmp keys q))) (at_place q old hole few at ∙ f)
         ∙ ap (λ t. cond t true (contains nat_cmp keys q)) (at_place q new hole few at ∙ e)
-        ∙ are.keyed q ∙ key_at sizes q hole at ∙ and_true (nat_lt hole (length sizes)) (old == q / 2 ^ 64) (less_is hole (length sizes) within) ∙ f
+        ∙ are.keyed q ∙ key_at sizes q hole at ∙ and_true (nat_lt hole (length sizes)) (old == q / 2 ^ 64) (before_it hole (length sizes) within) ∙ f
 
     keyed_at : (q : ℕ) → (q % 2 ^ 64 ≡ hole) ⊎ (q % 2 ^ 64 ≡ hole → ⊥) → contains nat_cmp keys' q ≡ is_key (set sizes hole new) q
     keyed_at q (inl at) =
         here q at (new == q / 2 ^ 64) refl (old == q / 2 ^ 64) refl
         ∙ sym (key_at (set sizes hole new) q hole at
-        ∙ and_true (nat_lt hole (length (set sizes hole new))) (get_or (set sizes hole new) hole 0 == q / 2 ^ 64) (less_is hole (length (set sizes hole new)) (omega (arith, within, length-set sizes hole new)))
+        ∙ and_true (nat_lt hole (length (set sizes hole new))) (get_or (set sizes hole new) hole 0 == q / 2 ^ 64) (before_it hole (length (set sizes hole new)) (omega (arith, within, length-set sizes hole new)))
         ∙ ap (λ n. n == q / 2 ^ 64) (get_or-set_same sizes hole new 0 within))
     keyed_at q (inr apart) =
         changed q
@@ -201,8 +196,8 @@ less_more : (n k m : ℕ) → m ≡ k + 1 → (n ≡ k → ⊥) → nat_lt n k �
 less_more n k m e apart = by (nat_lt n k) refl
   where
     by : (b : Bool) → nat_lt n k ≡ b → b ≡ nat_lt n m
-    by true h = sym (less_is n m (omega (arith, e, is_less n k h)))
-    by false h = sym (not_less n m (omega (arith, e, apart, at_least n k h)))
+    by true h = sym (before_it n m (omega (arith, e, is_less n k h)))
+    by false h = sym (not_before n m (omega (arith, e, apart, at_least n k h)))
 
 -- a hole more at the end has its key
 pub pushed_indexed : (sizes values : List ℕ) (keys keys' : BTreeSet ℕ) (size : ℕ) → AreIndexed sizes values keys → length sizes < length values → length sizes < 2 ^ 64
@@ -230,10 +225,10 @@ pushed_indexed sizes values keys keys' size are room few changed = record {
     keyed_at : (q : ℕ) → (q % 2 ^ 64 ≡ hole) ⊎ (q % 2 ^ 64 ≡ hole → ⊥) → contains nat_cmp keys' q ≡ is_key (sizes ++ size ∷ []) q
     keyed_at q (inl at) =
         changed q
-        ∙ ap (λ t. cond (nat_eq (hole_key size hole) q) true t) (are.keyed q ∙ key_at sizes q hole at ∙ and_false (nat_lt hole hole) (get_or sizes hole 0 == q / 2 ^ 64) (not_less hole hole (omega arith)))
+        ∙ ap (λ t. cond (nat_eq (hole_key size hole) q) true t) (are.keyed q ∙ key_at sizes q hole at ∙ and_false (nat_lt hole hole) (get_or sizes hole 0 == q / 2 ^ 64) (not_before hole hole (omega arith)))
         ∙ or_itself (nat_eq (hole_key size hole) q) ∙ at_place q size hole few at
         ∙ sym (key_at (sizes ++ size ∷ []) q hole at
-        ∙ and_true (nat_lt hole (length (sizes ++ size ∷ []))) (get_or (sizes ++ size ∷ []) hole 0 == q / 2 ^ 64) (less_is hole (length (sizes ++ size ∷ [])) (omega (arith, more)))
+        ∙ and_true (nat_lt hole (length (sizes ++ size ∷ []))) (get_or (sizes ++ size ∷ []) hole 0 == q / 2 ^ 64) (before_it hole (length (sizes ++ size ∷ [])) (omega (arith, more)))
         ∙ ap (λ n. n == q / 2 ^ 64) (get_or-end sizes size))
     keyed_at q (inr apart) =
         changed q
@@ -273,13 +268,13 @@ dropped_indexed sizes values keys keys' front size are is changed = record {
     here q at false e =
         changed q ∙ ap (λ t. cond t false (contains nat_cmp keys q)) (at_place q size hole few at ∙ e)
         ∙ are.keyed q ∙ key_at sizes q hole at
-        ∙ and_true (nat_lt hole (length sizes)) (get_or sizes hole 0 == q / 2 ^ 64) (less_is hole (length sizes) (omega (arith, more)))
+        ∙ and_true (nat_lt hole (length sizes)) (get_or sizes hole 0 == q / 2 ^ 64) (before_it hole (length sizes) (omega (arith, more)))
         ∙ ap (λ n. n == q / 2 ^ 64) (ap (λ l. get_or l hole 0) is ∙ get_or-end front size) ∙ e
 
     keyed_at : (q : ℕ) → (q % 2 ^ 64 ≡ hole) ⊎ (q % 2 ^ 64 ≡ hole → ⊥) → contains nat_cmp keys' q ≡ is_key front q
     keyed_at q (inl at) =
         here q at (size == q / 2 ^ 64) refl
-        ∙ sym (key_at front q hole at ∙ and_false (nat_lt hole hole) (get_or front hole 0 == q / 2 ^ 64) (not_less hole hole (omega arith)))
+        ∙ sym (key_at front q hole at ∙ and_false (nat_lt hole hole) (get_or front hole 0 == q / 2 ^ 64) (not_before hole hole (omega arith)))
     keyed_at q (inr apart) =
         changed q
         ∙ ap (λ t. cond t false (contains nat_cmp keys q)) (apart_place q size hole few apart)

@@ -13,7 +13,8 @@ some_one x y e = cc
 no_some : {P : Type 0} (x : ℕ) → None ≡ Some x → P
 no_some x e = cc
 
-hole_size : (len size : ℕ) → fits_hole len size ≡ true → (size ≡ len) ⊎ (len + 25 ≤ size)
+-- a hole that takes a record is as large as it, or leaves at least 25 bytes
+pub hole_size : (len size : ℕ) → fits_hole len size ≡ true → (size ≡ len) ⊎ (len + 25 ≤ size)
 hole_size len size fits = by (size == len) refl
   where
     by : (b : Bool) → (size == len) ≡ b → (size ≡ len) ⊎ (len + 25 ≤ size)
@@ -34,10 +35,10 @@ pub last_after : (start : ℕ) (m : Move) (ms : List Move) → AreSpaced start (
 last_after start m [] spaced = spaced.0
 last_after start m (x ∷ xs) spaced = omega (arith, spaced.0, last_after (m.to + m.len) x xs spaced.2)
 
-before_it : (a b : ℕ) → a < b → nat_lt a b ≡ true
+pub before_it : (a b : ℕ) → a < b → nat_lt a b ≡ true
 before_it a b h = grind (arith, nat_tests)
 
-not_before : (a b : ℕ) → b ≤ a → nat_lt a b ≡ false
+pub not_before : (a b : ℕ) → b ≤ a → nat_lt a b ≡ false
 not_before a b h = grind (arith, nat_tests)
 
 first_hole : (start : ℕ) (m : Move) (ms : List Move) (r : Move) → 25 ≤ r.len → AreSpaced start (m ∷ ms) → AreWhole (m ∷ ms) → r.to ≡ start → (m.to - start ≡ r.len) ⊎ (r.len + 25 ≤ m.to - start) → Found start m ms r

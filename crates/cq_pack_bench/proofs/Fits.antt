@@ -3,6 +3,7 @@ use Rattle.std.proofs.Common.{◌≡◌, ℕ, zero, suc, ◌+◌, ◌-◌, ◌*�
 use Rattle.std.specs.Prelude.{filter, nat_lt, ◌&&◌, ◌||◌, ◌==◌}
 use Rattle.std.specs.List.{list_any}
 use Rattle.std.proofs.lemmas.Bool.Decides.{nat_tests}
+use Rattle.std.proofs.lemmas.List.{append-nil}
 use Rattle.cq_block.specs.declared.layout.Block.{Block}
 use Rattle.cq_bytes.specs.Numbers.{contains}
 use Rattle.cq_pack.specs.Packing.{standing, live_of, AreBlocks, AreNamed, AreWhole, AreShort, AreSpaced, CanPack}
@@ -117,13 +118,9 @@ made_next count k at hole len id blocks one two ids more made within h l n first
     (subst (AreMade count (k + 1) (at + dead_len k + live_len k) ((blocks ++ record { at = at; len = dead_len k; id = 2 * k + 1 } ∷ []) ++ record { at = at + dead_len k; len = live_len k; id = 2 * k + 2 } ∷ [])) (sym (third ∙ ap (λ x. ids ++ x ∷ []) next))
     (made_more count k at blocks ids made within)))
 
-append_none : {A : Type 0} (xs : List A) → xs ++ [] ≡ xs
-append_none [] = refl
-append_none (x ∷ xs) = ap (λ l. x ∷ l) (append_none xs)
-
 pub made_all : (count k at : ℕ) (blocks : List Block) (ids : List ℕ) → AreMade count k at blocks ids → k ≡ count → 0 < count → count ≤ 1000000 → CanPack blocks ids
 made_all count k at blocks ids made end there few =
     let none : count - k ≡ 0 = omega (arith, end) in
-    let all : blocks ≡ blocks_from count 0 128 = sym (append_none blocks) ∙ ap (λ n. blocks ++ blocks_from n k at) (sym none) ∙ made.blocks_are in
-    let live : ids ≡ ids_from count 0 = sym (append_none ids) ∙ ap (λ n. ids ++ ids_from n k) (sym none) ∙ made.ids_are in
+    let all : blocks ≡ blocks_from count 0 128 = sym (append-nil blocks) ∙ ap (λ n. blocks ++ blocks_from n k at) (sym none) ∙ made.blocks_are in
+    let live : ids ≡ ids_from count 0 = sym (append-nil ids) ∙ ap (λ n. ids ++ ids_from n k) (sym none) ∙ made.ids_are in
     subst (λ l. CanPack l ids) (sym all) (subst (CanPack (blocks_from count 0 128)) (sym live) (fits count there few))

@@ -1,21 +1,15 @@
 -- The records of files as parts of all records.
-use Rattle.std.proofs.Common.{◌≡◌, ◌≢◌, ℕ, ◌+◌, ◌-◌, ◌≤◌, Bool, true, false, cond, List, [], ◌∷◌, map, length, Option, None, Some, IsSome, is_some, unwrap_or, refl, sym, ap, subst, ◌∙◌, nat_eq, arith}
+use Rattle.std.proofs.Common.{◌≡◌, ℕ, ◌+◌, ◌≤◌, Bool, true, false, cond, List, [], ◌∷◌, map, length, Option, None, Some, IsSome, is_some, unwrap_or, refl, sym, ap, ◌∙◌, nat_eq, arith}
 use Rattle.std.specs.Option.{option_map_or}
-use Rattle.std.specs.declared.cmp.Ordering.TheVariants.{Equal}
 use Rattle.std.specs.Ordering.{nat_cmp}
 use Rattle.std.proofs.lemmas.Bool.Decides.{nat_tests}
 use Rattle.std.specs.FinMap.{FinMap, nat_cmp-IsAntisymmetric, empty, insert, remove, get, entries, get-empty, get-retain_keys, len-entries, len-empty, empty_of_len}
 use Rattle.cq_map.specs.Totals.{sum_of, total}
-use Rattle.cq_map.proofs.Totals.{get_put, get_without, alike, remove_absent, insert_removed, remove_inserted, insert_same, get_removed, get_inserted, total-insert, total-remove}
+use Rattle.cq_map.proofs.Seen.{turned}
+use Rattle.cq_map.proofs.Totals.{itself, equal, get_put, get_without, alike, remove_absent, insert_removed, remove_inserted, get_removed, get_inserted, total-insert, total-remove}
 use Rattle.cq_table.specs.declared.Place.{Place}
 use Rattle.cq_table.specs.Located.{IsByFile}
 use Rattle.cq_table.specs.Records.{Places, block_of, blocks_of, whole_len, len_at, stands_in, in_file, live_bytes, records_at, ChangesFile}
-
-equal : (a b : ℕ) → nat_eq a b ≡ true → b ≡ a
-equal a b h = grind (arith, nat_tests)
-
-itself : (a : ℕ) → nat_eq a a ≡ true
-itself a = grind (arith, nat_tests)
 
 -- one record of a file by its id
 pub get_in : (m : Places) (f q : ℕ) → get (in_file m f) q ≡ cond (stands_in m f q) (get m q) None
@@ -84,15 +78,6 @@ not_in m f id other = by (get m id) refl
     by : (o : Option Place) → get m id ≡ o → get (in_file m f) id ≡ None
     by None e = get_in m f id ∙ ap (filtered f) e
     by (Some p) e = get_in m f id ∙ ap (filtered f) e ∙ ap (λ x. cond x (Some p) None) (other p e)
-
-turned : (a b : ℕ) → nat_eq a b ≡ nat_eq b a
-turned a b = grind (arith, nat_tests)
-
-differ : (a b c : ℕ) → nat_eq a b ≡ false → nat_eq a c ≡ true → nat_eq c b ≡ false
-differ a b c x y = grind (arith, nat_tests)
-
-same_file : (a b : ℕ) → (nat_eq a b ≡ false → ⊥) → nat_eq a b ≡ true
-same_file a b h = grind (arith, nat_tests)
 
 differ2 : (a b c : ℕ) → nat_eq a c ≡ true → nat_eq b c ≡ false → nat_eq a b ≡ false
 differ2 a b c x y = grind (arith, nat_tests)
@@ -273,3 +258,10 @@ found_in m files id q file is none at = by (nat_eq q.file file) refl
         let there : get (records_at files file) id ≡ Some q = ap (λ r. get r id) (is file) ∙ get_in m file id ∙ ap (filtered file) at ∙ ap (λ x. cond x (Some q) None) e in
         let both : Some q ≡ None = sym there ∙ none in cc
     by false e = e
+
+-- a record adds no more than its whole length to its file
+pub live_more : (m : Places) (id : ℕ) (p : Place) → live_bytes (insert m id p) p.file ≤ live_bytes m p.file + whole_len p
+live_more m id p =
+    let here : live_bytes (insert m id p) p.file ≡ total whole_len (insert (in_file m p.file) id p) =
+    ap (total whole_len) (in_file_put m id p p.file ∙ ap (λ x. cond x (insert (in_file m p.file) id p) (remove (in_file m p.file) id)) (itself p.file)) in
+    omega (arith, here, total_put (in_file m p.file) id p)

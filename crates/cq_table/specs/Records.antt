@@ -3,7 +3,7 @@ use Rattle.std.specs.Prelude.{◌≡◌, ℕ, ◌+◌, Bool, false, ◌==◌, Li
 use Rattle.std.specs.Option.{option_map_or}
 use Rattle.std.specs.Ordering.{nat_cmp}
 use Rattle.std.specs.Coded.{Coded, code_by, coded×, coded_ℕ}
-use Rattle.std.specs.FinMap.{FinMap, get, empty, insert, remove, entries, retain_keys}
+use Rattle.std.specs.FinMap.{FinMap, get, empty, entries, retain_keys}
 use Rattle.cq_block.specs.declared.layout.Block.{Block}
 use Rattle.cq_map.specs.Totals.{total}
 use Rattle.cq_table.specs.declared.Place.{Place}

@@ -3,19 +3,25 @@ use crate::{Place, Table};
 use cq_block::Block;
 use std::test::Fail;
 
-/// A place in the first file.
-fn first_file(at: u64, len: u32) -> Place {
-    Place { file: 0, at, len }
-}
-
 #[test]
 fn records_are_placed_and_counted(rt: HostRuntime) -> Result<(), Fail> {
+    let seven = Place {
+        file: 0,
+        at: 128,
+        len: 10,
+    };
+    let eight = Place {
+        file: 0,
+        at: 163,
+        len: 20,
+    };
     let mut table = Table::new(rt.alloc());
-    table.set(8, first_file(163, 20))?;
+    assert!(rt; table.live(0) == 0);
+    table.set(8, eight)?;
     assert!(rt; table.live(0) == 45);
-    table.set(7, first_file(128, 10))?;
+    table.set(7, seven)?;
     assert_eq!(rt; table.live(0), 80);
-    assert_eq!(rt; table.get(7), Some(first_file(128, 10)));
+    assert_eq!(rt; table.get(7), Some(seven));
     let records = table.records(0)?;
     assert_eq!(rt;
         records.as_slice(),
@@ -33,7 +39,7 @@ fn records_are_placed_and_counted(rt: HostRuntime) -> Result<(), Fail> {
         ]
         .as_slice()
     );
-    assert_eq!(rt; table.take(7), Some(first_file(128, 10)));
+    assert_eq!(rt; table.take(7), Some(seven));
     assert_eq!(rt; table.live(0), 45);
     assert_eq!(rt; table.take(7), None);
     Ok(())

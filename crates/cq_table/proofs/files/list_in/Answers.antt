@@ -1,7 +1,5 @@
-use Rattle.std.proofs.Common.{◌≡◌, sym, ap, ◌∙◌}
-use Rattle.std.specs.List.Sorted.{IsPermutation}
+use Rattle.std.proofs.Common.{sym, ap, ◌∙◌}
 use Rattle.std.proofs.lemmas.List.Sorted.{IsPermutation-refl}
-use Rattle.cq_table.specs.Records.{blocks_of}
 use Rattle.std.specs.FinMap as map
 use Rattle.cq_table.proofs.ByFile.{no_records, blocks_of-empty}
 use Rattle.cq_table.proofs.files.list_in.Goals as goal

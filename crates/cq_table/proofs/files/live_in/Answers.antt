@@ -1,4 +1,4 @@
-use Rattle.std.proofs.Common.{◌≡◌, sym, ap, ◌∙◌}
+use Rattle.std.proofs.Common.{sym, ap, ◌∙◌}
 use Rattle.cq_map.specs.Totals.{total}
 use Rattle.cq_table.specs.Records.{whole_len}
 use Rattle.std.specs.FinMap as map

@@ -1,7 +1,5 @@
-use Rattle.std.proofs.Common.{◌≡◌, ℕ, sym, ap, subst, ◌∙◌}
-use Rattle.std.specs.Ordering.{nat_cmp}
-use Rattle.std.specs.FinMap.{FinMap, remove}
-use Rattle.cq_table.specs.Records.{Places, live_bytes}
+use Rattle.std.proofs.Common.{◌≡◌, sym, ap, subst, ◌∙◌}
+use Rattle.cq_table.specs.Records.{live_bytes}
 use Rattle.cq_table.specs.Located.{Located, IsByFile}
 use Rattle.cq_table.proofs.ByFile.{forgotten}
 use Rattle.cq_table.proofs.located.Table.forget.Goals as goal

@@ -1,10 +1,8 @@
-use Rattle.std.proofs.Common.{◌≡◌, ◌≢◌, ℕ, ◌<◌, ◌^◌, Bool, true, false, None, Some, Result, Ok, Err, OnErr, nat_eq, sym, ap, subst, ◌∙◌, arith}
-use Rattle.std.specs.Ordering.{nat_cmp}
+use Rattle.std.proofs.Common.{◌≡◌, ℕ, true, false, None, Some, Result, Ok, Err, OnErr, nat_eq, sym, ap, subst, ◌∙◌, arith}
 use Rattle.std.proofs.lemmas.Bool.Decides.{nat_tests}
-use Rattle.std.specs.FinMap.{FinMap, get, insert, remove}
-use Rattle.cq_map.specs.Totals.{total}
+use Rattle.std.specs.FinMap.{get, insert}
 use Rattle.cq_table.specs.declared.Place.{Place}
-use Rattle.cq_table.specs.Records.{Places, whole_len, live_bytes, in_file, records_at}
+use Rattle.cq_table.specs.Records.{Places, live_bytes}
 use Rattle.cq_table.specs.Located.{Located, IsByFile}
 use Rattle.cq_table.proofs.ByFile.{put_here, put_moved, put_back, live_put, found_in}
 use Rattle.cq_table.proofs.located.Table.set.Goals as goal

@@ -1,6 +1,4 @@
-use Rattle.std.proofs.Common.{◌≡◌, ℕ, None, Some, sym, ap, subst, ◌∙◌}
-use Rattle.std.specs.Ordering.{nat_cmp}
-use Rattle.std.specs.FinMap.{FinMap, get, remove}
+use Rattle.std.proofs.Common.{sym, subst}
 use Rattle.cq_table.specs.Records.{Places}
 use Rattle.cq_table.specs.Located.{IsByFile}
 use Rattle.cq_table.proofs.ByFile.{none_taken, taken}
