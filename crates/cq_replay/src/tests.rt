@@ -1,8 +1,12 @@
 // Scripts with their texts, statuses and files.
 use crate::offline;
+use cq_bytes::{Body, Queues};
 use cq_disk::{Disk, Kind, Name};
+use cq_inbox::{Config, PlainInbox, Request};
 use cq_io::{MemSink, MemSource, Status};
-use cq_memdisk::MemDisk;
+use cq_journal::Reply;
+use cq_memdisk::{Altered, MemDisk};
+use cq_node::Node;
 use std::alloc::{AllocError, Global};
 use std::test::Fail;
 
@@ -241,5 +245,47 @@ fn the_state_after_each_word_is_kept(rt: HostRuntime) -> Result<(), Fail> {
         assert_eq!(rt; session.after[k].entries, entries);
         assert_eq!(rt; session.after[k].moment, moment);
     }
+    Ok(())
+}
+
+#[test]
+fn a_written_body_is_read_back(rt: HostRuntime) -> Result<(), Fail> {
+    // Each byte that this disk reads of a small store is one higher than what was written.
+    let alloc = rt.alloc();
+    let disk = Altered::new(MemDisk::new(alloc, Vec::new(alloc)));
+    let Some(config) = Config::new(1, 4096, 4096, 16_777_216, 0) else {
+        assert!(rt; false, "numbers out of range");
+        return Ok(());
+    };
+    let Ok(mut node) = Node::open(alloc, disk, config, PlainInbox::new(alloc, 1)?) else {
+        assert!(rt; false, "no node");
+        return Ok(());
+    };
+    let mut queues = Queues::new(alloc);
+    if queues.push(0).is_err() {
+        assert!(rt; false, "no queue");
+        return Ok(());
+    }
+    let body = Body::copy(alloc, b"hello")?;
+    assert!(rt; node.put(0, Request::Publish { queues, body }).is_ok());
+    assert!(rt; node.turn(0).is_ok());
+    assert!(rt; node.write_step().is_ok());
+    assert!(rt; node.put(0, Request::Get { queue: 0 }).is_ok());
+    assert!(rt; node.turn(0).is_ok());
+    let [
+        _,
+        Reply::Got {
+            delivery,
+            queue,
+            body,
+        },
+    ] = node.replies(0)
+    else {
+        assert!(rt; false, "other replies");
+        return Ok(());
+    };
+    assert_eq!(rt; *delivery, 0);
+    assert_eq!(rt; *queue, 0);
+    assert_eq!(rt; body.bytes(), b"ifmmp".as_slice());
     Ok(())
 }
