@@ -14,12 +14,11 @@ const NAME: Name = Name {
 };
 
 const FIRST: &[u8] = b"first";
+
 const BOTH: &[u8] = b"first, then";
 
 // What is synced, what is read, three fills, and masks.
-const IMAGES: [u64; 13] = [
-    0, 1, 2, 57, 257, 258, 259, 260, 261, 262, 263, 264, 265,
-];
+const IMAGES: [u64; 13] = [0, 1, 2, 57, 257, 258, 259, 260, 261, 262, 263, 264, 265];
 
 // A file with the first bytes: a call that makes it, and the seven of an append on a bare file.
 fn one<D: Disk>(disk: &mut D) -> Result<(), Fault>
