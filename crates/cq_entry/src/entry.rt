@@ -49,14 +49,23 @@ pub enum Seen {
 /// bytes, the id in 16 and the place in 8, big-endian.
 pub fn encode(entry: &Entry) -> [u8; 32]
     requires { IsEntry entry.now }
-    ensures { result ≡ entry_bytes entry.now }
+    ensures bytes { result ≡ entry_bytes entry.now }
+    ensures present { IsPresent result entry.now }
+{
+    spell(entry.kind, entry.len, entry.id, entry.place)
+}
+
+/// The bytes of an entry with these fields.
+fn spell(kind: EntryKind, len: u32, id: u128, place: u64) -> [u8; 32]
+    requires { IsEntry (record { kind = kind; len = len; id = id; place = place }) }
+    ensures { IsPresent result (record { kind = kind; len = len; id = id; place = place }) }
 {
     let mut bytes = [0; 32];
     bytes[0] = PRESENT;
-    bytes[1] = kind_byte(entry.kind);
-    put_u32(&mut bytes, 4, entry.len);
-    put_u128(&mut bytes, 8, entry.id);
-    put_u64(&mut bytes, 24, entry.place);
+    bytes[1] = kind_byte(kind);
+    put_u32(&mut bytes, 4, len);
+    put_u128(&mut bytes, 8, id);
+    put_u64(&mut bytes, 24, place);
     bytes
 }
 
