@@ -1,35 +1,12 @@
 -- Numbers read where they were written.
-use Rattle.std.proofs.Common.{◌≡◌, ℕ, ◌+◌, ◌*◌, ◌/◌, ◌%◌, ◌^◌, ◌<◌, ◌≤◌, List, ◌++◌, length, take, drop, Option, None, Some, MatchOption, unwrap_or, ap, ◌∙◌, arith}
+use Rattle.std.proofs.Common.{◌≡◌, ℕ, ◌+◌, ◌^◌, ◌<◌, ◌≤◌, List, ◌++◌, length, take, drop, Option, None, Some, MatchOption, unwrap_or, ap, ◌∙◌, arith}
 use Rattle.std.specs.Int.{Width, w64, w128, byte_len, to_be_bytes, from_be_bytes}
 use Rattle.std.proofs.lemmas.Nat.{from_be_bytes-to_be_bytes_8}
 use Rattle.std.proofs.Math.Seq.{drop-append-add}
 use Rattle.std.proofs.lemmas.List.{drop-append-le, take-append-le}
 use Rattle.std.proofs.Common.{length-drop}
 use Rattle.cq_bytes.specs.Field.{number_at}
-use native.Mathlib.Nat as nat
-
-byte_and_rest : (n p : ℕ) → n / p ≡ n / p % 256 + n / (p * 256) * 256
-byte_and_rest n p = omega (arith, nat.div-div-eq-div-mul n p 256)
-
-pub from_be_bytes-to_be_bytes_16 : (n : ℕ) → n < 2 ^ 128 → from_be_bytes w128 (to_be_bytes w128 n) ≡ n
-from_be_bytes-to_be_bytes_16 n fits =
-    let q0 : n ≡ n % 256 + n / 256 * 256 = omega arith in
-    let q1 = byte_and_rest n 256 in
-    let q2 = byte_and_rest n 65536 in
-    let q3 = byte_and_rest n 16777216 in
-    let q4 = byte_and_rest n 4294967296 in
-    let q5 = byte_and_rest n 1099511627776 in
-    let q6 = byte_and_rest n 281474976710656 in
-    let q7 = byte_and_rest n 72057594037927936 in
-    let q8 = byte_and_rest n 18446744073709551616 in
-    let q9 = byte_and_rest n 4722366482869645213696 in
-    let q10 = byte_and_rest n 1208925819614629174706176 in
-    let q11 = byte_and_rest n 309485009821345068724781056 in
-    let q12 = byte_and_rest n 79228162514264337593543950336 in
-    let q13 = byte_and_rest n 20282409603651670423947251286016 in
-    let q14 = byte_and_rest n 5192296858534827628530496329220096 in
-    let q15 : n / 1329227995784915872903807060280344576 ≡ n / 1329227995784915872903807060280344576 % 256 = omega arith in
-    omega (arith, q0, q1, q2, q3, q4, q5, q6, q7, q8, q9, q10, q11, q12, q13, q14, q15)
+use Rattle.cq_bytes.specs.FieldLemmas.{from_be_bytes-to_be_bytes_16}
 
 -- a number at the front of bytes
 pub number_8 : (n : ℕ) (rest : List ℕ) → n < 2 ^ 64 → number_at w64 (to_be_bytes w64 n ++ rest) 0 ≡ n
