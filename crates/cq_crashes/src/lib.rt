@@ -1,5 +1,9 @@
-//! Gated files on the disk in memory: what each stop of an append leaves.
+//! Gated files, indexes and small stores on the disk in memory: what each stop of their calls leaves.
 #![tactic(auto)]
 
+#[cfg(test)]
+mod segments;
+#[cfg(test)]
+mod stores;
 #[cfg(test)]
 mod tests;

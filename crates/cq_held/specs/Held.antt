@@ -1,22 +1,19 @@
 -- The messages that the files of a folder hold, read off the whole files.
-use Rattle.std.specs.Prelude.{◌≡◌, ◌≢◌, ◌⊎◌, ◌↔◌, ℕ, ◌-◌, ◌≤◌, ◌<◌, List, [], ◌∷◌, ◌++◌, length, take, drop, slice_index, Contains, Option, Some, None, IsSome}
-use Rattle.std.specs.List.{concat, AllByRecursion}
+use Rattle.std.specs.Prelude.{◌≡◌, ℕ, zero, suc, ◌≤◌, List, [], ◌∷◌, ◌++◌, length, take, drop, Option, Some, None}
 use Rattle.cq_disk.specs.declared.name.Name.{Name}
-use Rattle.cq_disk.specs.declared.name.Kind.TheVariants.{Index, Small as small_file}
 use Rattle.cq_disk.specs.Call.{Image}
 use Rattle.cq_disk.specs.File.{File}
 use Rattle.cq_gate.specs.Format.{content}
+use Rattle.cq_entry.specs.declared.entry.Entry.{Entry}
 use Rattle.cq_entry.specs.declared.entry.EntryKind.TheVariants.{Small}
-use Rattle.cq_entry.specs.Entry.{entry_bytes}
-use Rattle.cq_small.specs.Record.{small_record}
+use Rattle.cq_entry.specs.declared.entry.Seen.{Seen}
+use Rattle.cq_entry.specs.declared.entry.Seen.TheVariants.{Gone, Present}
+use Rattle.cq_entry.specs.Entry.{IsSeen}
+use Rattle.cq_small.specs.Record.{StandsIn}
+use Rattle.cq_small.specs.Store.{small_name}
+use Rattle.cq_index.specs.Codec.{entry_len}
+use Rattle.cq_index.specs.Places.{index_name}
 use Rattle.cq_journal.specs.declared.event.Message.{Message}
-
--- the index and the small store of a segment of a queue
-abbrev pub index_name : ℕ → ℕ → Name
-index_name queue number = record { kind = Index; queue = queue; number = number }
-
-abbrev pub small_name : ℕ → ℕ → Name
-small_name queue number = record { kind = small_file; queue = queue; number = number }
 
 -- the bytes of a file as it reads
 abbrev pub bytes_in : Option File → Option (List ℕ)
@@ -32,51 +29,62 @@ abbrev pub content_of : Option (List ℕ) → List ℕ
 content_of None = []
 content_of (Some file) = content file
 
--- the bytes stand at this place of a file with this content; places count from the file's first byte
-pub record StandsAt (content : List ℕ) (place : ℕ) (bytes : List ℕ) : Type 0 where
-  pub from : 128 ≤ place
-  pub here : bytes ≡ take (length bytes) (drop (place - 128) content)
+-- the content of each file
+abbrev pub contents_of : Image → Name → List ℕ
+contents_of image name = content_of (image name)
 
--- an entry is gone unless its first byte is 1
-abbrev pub IsGone : List ℕ → Type 0
-IsGone entry = slice_index entry 0 ≢ 1
+-- the content is these entries, one after another, present or gone, of 32 bytes each
+abbrev pub AreEntries : List ℕ → List Seen → Type 0
+AreEntries content [] = content ≡ []
+AreEntries content (s ∷ seen) = (entry_len ≤ length content) × IsSeen (take entry_len content) s × AreEntries (drop entry_len content) seen
 
--- the entry is that of a small message, whose record stands at the entry's place of the small store
-pub record IsEntryOf (small : List ℕ) (entry : List ℕ) (message : Message) : Type 0 where
-  pub place : ℕ
-  pub spelled : entry ≡ entry_bytes (record { kind = Small; len = length message.body; id = message.id; place = place })
-  pub stands : StandsAt small place (small_record message.body)
+-- those that are present
+abbrev pub present : List Seen → List Entry
+present [] = []
+present (Gone ∷ seen) = present seen
+present (Present e ∷ seen) = e ∷ present seen
 
--- the messages of these entries, one for each that isn't gone, in their order
-abbrev pub AreEntriesOf : List ℕ → List (List ℕ) → List Message → Type 0
-AreEntriesOf small [] ms = ms ≡ []
-AreEntriesOf small (e ∷ es) [] = IsGone e × AreEntriesOf small es []
-AreEntriesOf small (e ∷ es) (m ∷ ms) = (IsGone e × AreEntriesOf small es (m ∷ ms)) ⊎ (IsEntryOf small e m × AreEntriesOf small es ms)
+-- an entry, and the number of its segment
+pub record Spot : Type 0 where
+  pub segment : ℕ
+  pub entry : Entry
 
--- a segment holds these messages: the content of its index is entries of 32 bytes, one after another, and they are those of these messages
-pub record SegmentHolds (image : Image) (queue number : ℕ) (ms : List Message) : Type 0 where
-  pub entries : List (List ℕ)
-  pub pieces : content_of (image (index_name queue number)) ≡ concat entries
-  pub long : AllByRecursion (λ e. length e ≡ 32) entries
-  pub are : AreEntriesOf (content_of (image (small_name queue number))) entries ms
+abbrev pub spots : ℕ → List Entry → List Spot
+spots n [] = []
+spots n (e ∷ es) = record { segment = n; entry = e } ∷ spots n es
 
--- the segments with these numbers hold these messages, one segment after another
-abbrev pub SegmentsHold : Image → ℕ → List ℕ → List Message → Type 0
-SegmentsHold image queue [] ms = ms ≡ []
-SegmentsHold image queue (n ∷ ns) ms = (front : List Message) × (behind : List Message) × (ms ≡ front ++ behind) × SegmentHolds image queue n front × SegmentsHold image queue ns behind
+-- the lists of the numbers below a bound, joined
+abbrev pub below : {A : Type 0} → (ℕ → List A) → ℕ → List A
+below f zero = []
+below f (suc n) = below f n ++ f n
 
--- each number is below those after it
-abbrev pub AreRising : List ℕ → Type 0
-AreRising [] = Unit {0}
-AreRising (n ∷ ns) = AllByRecursion (λ k. n < k) ns × AreRising ns
+-- The lists are equally long, and elements at one place have R.
+abbrev pub Zip : {A B : Type 0} → (A → B → Type 0) → List A → List B → Type 0
+Zip R [] [] = Unit {0}
+Zip R [] (y ∷ ys) = ⊥
+Zip R (x ∷ xs) [] = ⊥
+Zip R (x ∷ xs) (y ∷ ys) = R x y × Zip R xs ys
 
--- The queue holds these messages: those of its segments, by rising number. A segment is there where its index is.
-pub record QueueHolds (image : Image) (queue : ℕ) (ms : List Message) : Type 0 where
-  pub numbers : List ℕ
-  pub rising : AreRising numbers
-  pub each : (n : ℕ) → Contains numbers n ↔ IsSome (image (index_name queue n))
-  pub hold : SegmentsHold image queue numbers ms
+-- The entry of a queue's segment is that of this message: of a small one, whose record stands at the entry's place of the segment's small store.
+pub record IsMessageOf (contents : Name → List ℕ) (queue : ℕ) (spot : Spot) (m : Message) : Type 0 where
+  pub id : m.id ≡ spot.entry.id
+  pub len : length m.body ≡ spot.entry.len
+  pub kind : spot.entry.kind ≡ Small
+  pub stands : StandsIn (contents (small_name queue spot.segment)) spot.entry.place m.body
+
+-- Each segment of the queue is entries, and these are the messages of those that are present, by rising segment and place.
+pub record HoldsIn (contents : Name → List ℕ) (queue : ℕ) (ms : List Message) : Type 0 where
+  pub seen : ℕ → List Seen
+  pub entries : (n : ℕ) → AreEntries (contents (index_name queue n)) (seen n)
+  -- from this number on no segment has a present entry
+  pub most : ℕ
+  pub none : (n : ℕ) → most ≤ n → present (seen n) ≡ []
+  pub each : Zip (IsMessageOf contents queue) (below (λ n. spots n (present (seen n))) most) ms
+
+-- files with these contents hold these messages of each queue
+abbrev pub Holds : (Name → List ℕ) → (ℕ → List Message) → Type 0
+Holds contents lines = (queue : ℕ) → HoldsIn contents queue (lines queue)
 
 -- The files hold these messages of each queue, in order, and no others.
 abbrev pub Held : Image → (ℕ → List Message) → Type 0
-Held image lines = (queue : ℕ) → QueueHolds image queue (lines queue)
+Held image lines = Holds (contents_of image) lines

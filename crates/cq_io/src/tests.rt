@@ -25,6 +25,7 @@ fn a_sink_takes_what_is_put(rt: HostRuntime) -> Result<(), Fail> {
     assert!(rt; sink.put(b"two\n").is_err());
     assert!(rt; sink.put(b"three\n").is_ok());
     assert_eq!(rt; sink.taken(), b"one\nthree\n".as_slice());
+    assert_eq!(rt; sink.lengths(), [4, 6].as_slice());
     assert_eq!(rt; sink.faults(), 1);
     assert_eq!(rt; sink.refused(), 0);
     Ok(())

@@ -1,11 +1,15 @@
 -- A batch grows by one message.
-use Rattle.std.proofs.Common.{◌≡◌, ℕ, suc, ◌+◌, ◌≤◌, ◌<◌, List, [], ◌∷◌, ◌++◌, length, take, get_or, refl, sym, subst, ap, ◌∙◌, arith, length-append}
+use Rattle.std.proofs.Common.{◌≡◌, ℕ, zero, suc, ◌+◌, ◌≤◌, ◌<◌, List, [], ◌∷◌, ◌++◌, length, take, get_or, refl, sym, subst, ap, ◌∙◌, arith, length-append}
+use Rattle.std.specs.Prelude.{All}
 use Rattle.std.proofs.lemmas.List.{take_more, length-take-le}
+use Rattle.std.proofs.lemmas.List.Elements.{All-append}
+use Rattle.cq_entry.specs.declared.entry.Entry.{Entry as IndexEntry}
+use Rattle.cq_entry.specs.Entry.{IsEntry}
 use Rattle.cq_small.specs.Record.{small_record}
 use Rattle.cq_journal.specs.declared.event.Message.{Message}
 use Rattle.cq_node.specs.declared.queue.Spot.{Spot}
 use Rattle.cq_node.specs.declared.batch.Batch.{Batch}
-use Rattle.cq_node.specs.Layout.{records_of, entries_of, spots_of, entry_at}
+use Rattle.cq_node.specs.Layout.{records_of, entries_of, spots_of, entry_of}
 use Rattle.cq_node.specs.Batch.{IsBatch, Grows, numbered}
 use Rattle.cq_node.proofs.Laid.{length-record, records_of-push, entries_of-push, spots_of-push}
 
@@ -20,13 +24,18 @@ numbered-push first (x ∷ xs) b =
     let e : first + 1 + length xs ≡ first + suc (length xs) = omega arith in
     ap (λ l. m ∷ l) (numbered-push (first + 1) xs b ∙ ap (λ (n : ℕ). numbered (first + 1) xs ++ record { id = n; body = b } ∷ []) e)
 
+all-one : {e : IndexEntry} → IsEntry e → All IsEntry (e ∷ [])
+all-one one zero d lt = one
+all-one one (suc k) d lt = absurd (omega (arith, lt))
+
 pub one_more : (base : ℕ) (ms : List Message) (m : Message) (old new : Batch) → IsBatch base ms old → Grows base m old new → length m.body ≤ 1048576 → IsBatch base (ms ++ m ∷ []) new
 one_more base ms m old new was grows short =
     let end : base + length old.records ≡ base + length (records_of ms) = ap (λ (l : List ℕ). base + length l) was.records in
     let longer : length new.records ≡ length old.records + length (small_record m.body) = ap length grows.records ∙ length-append old.records (small_record m.body) in
     record {
       records = grows.records ∙ ap (λ l. l ++ small_record m.body) was.records ∙ sym (records_of-push ms m);
-      entries = grows.entries ∙ ap (λ l. l ++ entry_at (base + length old.records) m) was.entries ∙ ap (λ (p : ℕ). entries_of base ms ++ entry_at p m) end ∙ sym (entries_of-push base ms m);
+      entries = grows.entries ∙ ap (λ l. l ++ entry_of (base + length old.records) m ∷ []) was.entries ∙ ap (λ (p : ℕ). entries_of base ms ++ entry_of p m ∷ []) end ∙ sym (entries_of-push base ms m);
+      valid = subst (All IsEntry) (sym grows.entries) (All-append IsEntry old.entries.items (entry_of (base + length old.records) m ∷ []) was.valid (all-one grows.valid));
       spots = grows.spots ∙ ap (λ (l : List Spot). l ++ record { place = base + length old.records; len = length m.body } ∷ []) was.spots ∙ ap (λ (p : ℕ). spots_of base ms ++ record { place = p; len = length m.body } ∷ []) end ∙ sym (spots_of-push base ms m);
       most = omega (arith, was.most, longer, length-record m.body, length-append ms (m ∷ []));
     }

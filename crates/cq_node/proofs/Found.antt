@@ -11,13 +11,12 @@ use Rattle.cq_journal.specs.declared.reply.Reply.{Reply}
 use Rattle.cq_journal.specs.History.{line, waiting, adds}
 use Rattle.cq_journal.specs.Asks.{body_of}
 use Rattle.cq_journal.proofs.Laws.{body_of-first}
-use Rattle.cq_held.specs.Held.{StandsAt}
 use Rattle.cq_journal.specs.Confirms.{AreConfirmed}
 use Rattle.cq_journal.specs.Legal.{brings, has, is_publish}
-use Rattle.cq_small.specs.Record.{small_record}
+use Rattle.cq_small.specs.Record.{small_record, StandsIn}
 use Rattle.cq_node.specs.declared.queue.Spot.{Spot}
 use Rattle.cq_node.specs.Batch.{numbered}
-use Rattle.cq_node.specs.Core.{ids, bodies_of, undecided, IsKept}
+use Rattle.cq_node.specs.Core.{AreWritable, ids, bodies_of, undecided, IsKept}
 use Rattle.cq_journal.specs.Confirms.{confirms, confirmed}
 use Rattle.cq_node.specs.Layout.{stored, unstored, records_of, records_end, spots_of, next_spots, IsFirstSpot, IsStoredFirst}
 use Rattle.cq_node.specs.Found.{IsFirstBody}
@@ -162,8 +161,8 @@ module _ {journal : List Entry} {p d k : ℕ} {bodies : List (List ℕ)} {places
         len = len_is;
         short = omega (arith, len_is, first-short (line journal 0) d m found.rest h.short found.here);
         ends = omega (arith, place_is, len_is, end, length-records m behind);
-        stands = subst (λ (place : ℕ). StandsAt (records_of (stored journal)) place (small_record m.body)) (sym place_is)
-            (subst (λ (l : List Message). StandsAt (records_of l) (128 + length (records_of front)) (small_record m.body)) (sym all) (stands front m behind));
+        stands = subst (λ (place : ℕ). StandsIn (records_of (stored journal)) place m.body) (sym place_is)
+            (subst (λ (l : List Message). StandsIn (records_of l) (128 + length (records_of front)) m.body) (sym all) (stands front m behind));
       }
 
   -- one message more is stored: where its record stands, and what places are kept
@@ -233,6 +232,9 @@ module _ {journal : List Entry} {p d k : ℕ} {bodies : List (List ℕ)} {places
   all_stored none =
       let all : p ≤ confirmed journal = omega (arith, none, h.published_is, h.confirmed_is, h.confirms_below) in
       take_all (confirmed journal) (line journal 0) (omega (arith, long, all))
+
+  pub writable : AreWritable journal
+  writable = record { numbered = h.numbered ∙ ap (range_with_len 1) (sym h.published_is); short = h.short }
 
   pub all_confirmed : undecided journal ≡ 0 → AreConfirmed journal
   all_confirmed none client number id there = elim (cases_Bool (has (brings id) journal)) [

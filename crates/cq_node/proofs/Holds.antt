@@ -1,102 +1,96 @@
 -- What the files hold where they have the records and the entries of all messages.
-use Rattle.std.proofs.Common.{◌≡◌, ◌≢◌, ℕ, ◌+◌, List, [], ◌∷◌, ◌++◌, length, Option, Some, None, refl, sym, ap, ◌∙◌, subst, arith, inl, inr, append_assoc, append-nil, length-append}
-use Rattle.std.specs.Prelude.{◌↔◌, Contains, IsSome, slice_index_or}
-use Rattle.std.specs.List.{concat, AllByRecursion}
-use Rattle.std.proofs.lemmas.Bool.{cases_eq, false≢true}
-use Rattle.std.proofs.lemmas.List.{nil_from_length}
+use Rattle.std.proofs.Common.{◌≡◌, ◌≢◌, ⊎_elim, ℕ, zero, suc, ◌+◌, ◌*◌, ◌^◌, ◌<◌, ◌≤◌, List, [], ◌∷◌, ◌++◌, length, map, Option, refl, sym, ap, ◌∙◌, subst, arith, append_assoc, length-append}
+use Rattle.std.specs.Prelude.{◌==◌, if◌then◌else◌}
+use Rattle.std.specs.List.{range_with_len, AllByRecursion}
+use Rattle.std.proofs.lemmas.Bool.{cases_eq, ne_eqb}
 use Rattle.cq_disk.specs.declared.name.Name.{Name}
-use Rattle.cq_disk.specs.declared.name.Kind.{Kind}
-use Rattle.cq_disk.specs.declared.name.Kind.TheVariants.{Index}
 use Rattle.cq_disk.specs.File.{File}
-use Rattle.cq_small.specs.Record.{small_record}
+use Rattle.cq_small.specs.Record.{small_record, StandsIn}
+use Rattle.cq_small.specs.Store.{small_name}
 use Rattle.cq_journal.specs.declared.event.Entry.{Entry}
 use Rattle.cq_journal.specs.declared.event.Message.{Message}
 use Rattle.cq_journal.specs.History.{line}
-use Rattle.cq_held.specs.Held.{index_name, small_name, bytes_in, as_read, AreEntriesOf, SegmentHolds, QueueHolds, Held}
-use Rattle.cq_node.specs.Layout.{records_of, entries_of, entry_at, stored, content_in, AreStored}
-use Rattle.cq_node.proofs.Laid.{length-entry, length-entries, length-record, records_of-push, stands}
+use Rattle.cq_journal.specs.Legal.{published}
+use Rattle.cq_entry.specs.declared.entry.Entry.{Entry as IndexEntry}
+use Rattle.cq_entry.specs.declared.entry.EntryKind.TheVariants.{Small, Shared}
+use Rattle.cq_entry.specs.declared.entry.Seen.{Seen}
+use Rattle.cq_entry.specs.declared.entry.Seen.TheVariants.{Present}
+use Rattle.cq_entry.specs.Entry.{entry_bytes, IsPresent}
+use Rattle.cq_index.specs.Places.{index_name, entries_bytes}
+use Rattle.cq_held.specs.Held.{as_read, contents_of, AreEntries, present, spots, Zip, IsMessageOf, HoldsIn, Held}
+use Rattle.cq_held.proofs.Entries.{entries_are, present_append}
+use Rattle.cq_node.specs.Core.{ids, AreWritable}
+use Rattle.cq_node.specs.Layout.{records_of, entries_of, stored, content_in, AreStored}
+use Rattle.cq_node.proofs.Files.{apart}
+use Rattle.cq_node.proofs.Laid.{length-record, records_of-push, stands}
 
--- the entries, each by itself
-abbrev pieces_of : ℕ → List Message → List (List ℕ)
-pieces_of base [] = []
-pieces_of base (m ∷ ms) = entry_at base m ∷ pieces_of (base + length m.body + 5) ms
+-- ---- the entries are of the form
 
-joined : (base : ℕ) (ms : List Message) → entries_of base ms ≡ concat (pieces_of base ms)
-joined base [] = refl
-joined base (m ∷ ms) = ap (λ l. entry_at base m ++ l) (joined (base + length m.body + 5) ms)
+unshared : {A : Type 0} → Small ≡ Shared → A
+unshared e = absurd (cc e)
 
-long : (base : ℕ) (ms : List Message) → AllByRecursion (λ e. length e ≡ 32) (pieces_of base ms)
-long base [] = tt
-long base (m ∷ ms) = (length-entry base m, long (base + length m.body + 5) ms)
-
--- each entry's record stands at its place
-are : (front ms : List Message) → AreEntriesOf (records_of (front ++ ms)) (pieces_of (128 + length (records_of front)) ms) ms
-are front [] = refl
-are front (m ∷ ms) =
-    let more : front ++ m ∷ [] ++ ms ≡ front ++ m ∷ ms = append_assoc front (m ∷ []) ms in
-    let next : 128 + length (records_of (front ++ m ∷ [])) ≡ 128 + length (records_of front) + length m.body + 5 =
-    ap (λ (l : List ℕ). 128 + length l) (records_of-push front m) ∙ omega (arith, length-append (records_of front) (small_record m.body), length-record m.body) in
-    inr (
-      record { place = 128 + length (records_of front); spelled = refl; stands = stands front m ms },
-      subst (λ (l : List Message). AreEntriesOf (records_of l) (pieces_of (128 + length (records_of front) + length m.body + 5) ms) ms) more
-          (subst (λ (base : ℕ). AreEntriesOf (records_of (front ++ m ∷ [] ++ ms)) (pieces_of base ms) ms) next (are (front ++ m ∷ []) ms)),
+pub valid_from : (base first count : ℕ) (ms : List Message) → ids ms ≡ range_with_len first count → 0 < first → first + count ≤ 4097 → AllByRecursion (λ m. length m.body ≤ 1048576) ms → base + count * 1048581 ≤ 2 ^ 62
+    → AllByRecursion (λ e. IsPresent (entry_bytes e) e) (entries_of base ms)
+valid_from base first count [] numbered low few short fits = tt
+valid_from base first zero (m ∷ ms) numbered low few short fits = cc
+valid_from base first (suc count) (m ∷ ms) numbered low few short fits =
+    let id : m.id ≡ first = cc in
+    let rest : ids ms ≡ range_with_len (first + 1) count = cc in (
+      record {
+        valid = record { short = short.0; named = omega (arith, id, low); unplaced = unshared };
+        id = omega (arith, id, few);
+        place = omega (arith, fits);
+        spelled = refl;
+      },
+      valid_from (base + length m.body + 5) (first + 1) count ms rest (omega arith) (omega (arith, few)) short.1 (omega (arith, fits, short.0)),
     )
 
-abbrev IsIndex : Kind → Type 0
-IsIndex Index = Unit {0}
-IsIndex _ = ⊥
+-- each entry's record stands at its place
+pub are : (contents : Name → List ℕ) (front ms : List Message) → contents (small_name 0 0) ≡ records_of (front ++ ms) → Zip (IsMessageOf contents 0) (spots 0 (entries_of (128 + length (records_of front)) ms)) ms
+are contents front [] is = tt
+are contents front (m ∷ ms) is =
+    let more : front ++ m ∷ [] ++ ms ≡ front ++ m ∷ ms = append_assoc front (m ∷ []) ms in
+    let next : 128 + length (records_of (front ++ m ∷ [])) ≡ 128 + length (records_of front) + length m.body + 5 =
+    ap (λ (l : List ℕ). 128 + length l) (records_of-push front m) ∙ omega (arith, length-append (records_of front) (small_record m.body), length-record m.body) in (
+      record { id = refl; len = refl; kind = refl; stands = subst (λ (c : List ℕ). StandsIn c (128 + length (records_of front)) m.body) (sym is) (stands front m ms) },
+      subst (λ (base : ℕ). Zip (IsMessageOf contents 0) (spots 0 (entries_of base ms)) ms) next (are contents (front ++ m ∷ []) ms (is ∙ ap records_of (sym more))),
+    )
 
-module _ (journal : List Entry) (files : Name → Option File) (is : AreStored journal files) (all : stored journal ≡ line journal 0) (alone : (q : ℕ) → q ≢ 0 → line journal q ≡ []) where
-  segment : SegmentHolds (as_read files) 0 0 (line journal 0)
-  segment = record {
-    entries = pieces_of 128 (line journal 0);
-    pieces = is.entries ∙ ap (entries_of 128) all ∙ joined 128 (line journal 0);
-    long = long 128 (line journal 0);
-    are = subst (λ (small : List ℕ). AreEntriesOf small (pieces_of 128 (line journal 0)) (line journal 0)) (sym (is.records ∙ ap records_of all)) (are [] (line journal 0));
-  }
+module _ (journal : List Entry) (files : Name → Option File) (is : AreStored journal files) (all : stored journal ≡ line journal 0) (alone : (q : ℕ) → q ≢ 0 → line journal q ≡ []) (writable : AreWritable journal) (few : published journal 0 ≤ 4096) where
+  abbrev contents : Name → List ℕ
+  contents = contents_of (as_read files)
 
-  -- no other index is there
-  no_index : (q n : ℕ) → (q ≡ 0 → n ≢ 0) → files (index_name q n) ≡ None
-  no_index q n other = is.others (index_name q n) (λ (e : index_name q n ≡ small_name 0 0). subst IsIndex (ap (λ (m : Name). m.kind) e) tt) (λ (e : index_name q n ≡ index_name 0 0). other (ap (λ (m : Name). m.queue) e) (ap (λ (m : Name). m.number) e))
+  abbrev entries : List IndexEntry
+  entries = entries_of 128 (line journal 0)
 
-  no_bytes : (q n : ℕ) → (q ≡ 0 → n ≢ 0) → IsSome (as_read files (index_name q n)) → ⊥
-  no_bytes q n other some = false≢true (let e : as_read files (index_name q n) ≡ None = ap bytes_in (no_index q n other) in subst IsSome e some)
+  -- no other index has entries
+  no_entries : (q n : ℕ) → (q ≡ 0 → n ≢ 0) → contents (index_name q n) ≡ []
+  no_entries q n other = ap content_in (is.others (index_name q n) (apart q n) (λ (e : index_name q n ≡ index_name 0 0). other (ap (λ (m : Name). m.queue) e) (ap (λ (m : Name). m.number) e)))
 
-  none : (q n : ℕ) → (q ≡ 0 → n ≢ 0) → Contains [] n ↔ IsSome (as_read files (index_name q n))
-  none q n other = (λ has. absurd (omega (arith, has.1)), λ some. absurd (no_bytes q n other some))
+  abbrev seen : ℕ → List Seen
+  seen n = if n == 0 then map Present entries else []
 
-  first : (slot : Option File) → files (index_name 0 0) ≡ slot → QueueHolds (as_read files) 0 (line journal 0)
-  first None there =
-      let empty : line journal 0 ≡ [] = nil_from_length (line journal 0) (omega (arith, length-entries 128 (line journal 0), ap length (sym (ap (entries_of 128) all) ∙ sym is.entries ∙ ap content_in there))) in
-      record {
-        numbers = [];
-        rising = tt;
-        each = λ n. (
-          λ has. absurd (omega (arith, has.1)),
-          λ some. elim (cases_eq n 0) [
-            | inl zero_is ↦ absurd (false≢true (subst IsSome (ap (λ k. as_read files (index_name 0 k)) zero_is ∙ ap bytes_in there) some))
-            | inr other ↦ absurd (no_bytes 0 n (λ q. other) some)
-          ],
-        );
-        hold = empty;
-      }
-  first (Some f) there = record {
-    numbers = 0 ∷ [];
-    rising = (tt, tt);
-    each = λ n. (
-      λ has.
-          let zero_is : n ≡ 0 = (let k_is : has.0 ≡ 0 = omega (arith, has.1) in sym (sym (ap (λ k. slice_index_or (0 ∷ []) k n) k_is) ∙ has.2)) in
-          subst IsSome (sym (ap (λ k. as_read files (index_name 0 k)) zero_is ∙ ap bytes_in there)) refl,
-      λ some. elim (cases_eq n 0) [
-        | inl zero_is ↦ (0, omega arith, sym zero_is)
-        | inr other ↦ absurd (no_bytes 0 n (λ q. other) some)
-      ],
-    );
-    hold = (line journal 0, [], sym (append-nil (line journal 0)), segment, refl);
+  off_first : (n : ℕ) → n ≢ 0 → seen n ≡ []
+  off_first n other = ap (λ b. if b then map Present entries else []) (ne_eqb n 0 other)
+
+  first_entries : AreEntries (contents (index_name 0 0)) (seen 0)
+  first_entries = subst (λ (c : List ℕ). AreEntries c (map Present entries)) (sym (is.entries ∙ ap (λ ms. entries_bytes (entries_of 128 ms)) all))
+      (entries_are entries (valid_from 128 1 (published journal 0) (line journal 0) writable.numbered (omega arith) (omega (arith, few)) writable.short (omega (arith, few))))
+
+  first : HoldsIn contents 0 (line journal 0)
+  first = record {
+    seen = seen;
+    entries = λ n. ⊎_elim
+        (λ zero_is. subst (λ k. AreEntries (contents (index_name 0 k)) (seen k)) (sym zero_is) first_entries)
+        (λ other. subst (λ (s : List Seen). AreEntries (contents (index_name 0 n)) s) (sym (off_first n other)) (no_entries 0 n (λ q. other)))
+        (cases_eq n 0);
+    most = 1;
+    none = λ n above. ap present (off_first n (λ e. omega (arith, e, above)));
+    each = subst (λ (es : List IndexEntry). Zip (IsMessageOf contents 0) (spots 0 es) (line journal 0)) (sym (present_append [] entries)) (are contents [] (line journal 0) (is.records ∙ ap records_of all));
   }
 
   pub holds : Held (as_read files) (line journal)
-  holds q = elim (cases_eq q 0) [
-    | inl zero_is ↦ subst (λ k. QueueHolds (as_read files) k (line journal k)) (sym zero_is) (first (files (index_name 0 0)) refl)
-    | inr other ↦ record { numbers = []; rising = tt; each = λ n. none q n (λ e. absurd (other e)); hold = alone q other }
-  ]
+  holds q = ⊎_elim
+      (λ zero_is. subst (λ k. HoldsIn contents k (line journal k)) (sym zero_is) first)
+      (λ other. subst (HoldsIn contents q) (sym (alone q other)) (record { seen = λ n. []; entries = λ n. no_entries q n (λ e. absurd (other e)); most = 0; none = λ n above. refl; each = tt }))
+      (cases_eq q 0)

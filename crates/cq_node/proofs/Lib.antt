@@ -1,9 +1,12 @@
 pub mod Numbered
 pub mod Laid
-pub mod Contents
 pub mod Holds
 pub mod Writes
 pub mod Steps
 pub mod Found
 pub mod Batches
 pub mod Counts
+pub mod Files
+pub mod Agreeing
+pub mod Passing
+pub mod Steadying

@@ -12,7 +12,7 @@ use Rattle.cq_journal.specs.declared.event.Entry.{Entry}
 use Rattle.cq_journal.specs.declared.event.Message.{Message}
 use Rattle.cq_journal.specs.declared.reply.Reply.{Reply}
 use Rattle.cq_journal.specs.declared.reply.Reply.TheVariants as reply
-use Rattle.cq_journal.specs.History.{line, waiting, unacked, open_deliveries}
+use Rattle.cq_journal.specs.History.{line, waiting, unacked, open_deliveries, settled}
 use Rattle.cq_journal.specs.Legal.{StartsWithOpened, newest, brings, has, IsFirst}
 use Rattle.cq_journal.specs.Asks.{replies}
 use Rattle.cq_journal.proofs.Laws.{waiting-quiet, waiting-published, waiting-delivered}
@@ -63,6 +63,7 @@ kept-published {journal} {p} {d} {k} {bodies} {places} {told} stamp body h later
       numbered = numbered-push (line journal 0) m 1 p h.numbered next ∙ ap (range_with_len 1) more;
       short = short-push (line journal 0) m h.short small;
       alone = λ q other. ap (λ (b : Bool). line journal q ++ cond b (m ∷ []) []) (only_first q other) ∙ append-nil (line journal q) ∙ h.alone q other;
+      unsettled = λ q. append-nil (settled journal q) ∙ h.unsettled q;
       waits = waiting-published journal stamp 0 p (p + 1) 0 (0 ∷ []) body h.legal new refl ∙ ap (λ ms. ms ++ m ∷ []) h.waits ∙ sym (drop-push (line journal 0) m d (omega (arith, h.handed, long)));
       published_is = ap (λ n. n + 1) h.published_is;
       delivered_is = omega (arith, h.delivered_is);
@@ -99,6 +100,7 @@ kept-delivered {journal} {p} {d} {k} {bodies} {places} {told} stamp body h later
       numbered = ap ids (append-nil (line journal 0)) ∙ h.numbered;
       short = subst AreShort same h.short;
       alone = λ q other. append-nil (line journal q) ∙ h.alone q other;
+      unsettled = λ q. append-nil (settled journal q) ∙ h.unsettled q;
       waits = subst (λ (id : ℕ). waiting (record { event = Delivered 0 d 0 id; stamp = stamp } ∷ journal) 0 ≡ found.rest) id_is (waiting-delivered journal stamp 0 d 0 found.message found.rest h.legal waits)
           ∙ sym found.behind ∙ ap (λ n. drop n (line journal 0)) more ∙ ap (drop (d + 1)) same;
       published_is = omega (arith, h.published_is);
@@ -129,6 +131,7 @@ kept-empty {journal} {p} {d} {k} {bodies} {places} {told} stamp h later room non
       numbered = ap ids (append-nil (line journal 0)) ∙ h.numbered;
       short = subst AreShort same h.short;
       alone = λ q other. append-nil (line journal q) ∙ h.alone q other;
+      unsettled = λ q. append-nil (settled journal q) ∙ h.unsettled q;
       waits = waiting-quiet journal (record { event = Empty 0 0; stamp = stamp }) 0 refl refl refl ∙ h.waits ∙ ap (drop d) same;
       published_is = omega (arith, h.published_is);
       delivered_is = omega (arith, h.delivered_is);
@@ -158,6 +161,7 @@ kept-busy {journal} {p} {d} {k} {bodies} {places} {told} stamp h later full =
       numbered = ap ids (append-nil (line journal 0)) ∙ h.numbered;
       short = subst AreShort same h.short;
       alone = λ q other. append-nil (line journal q) ∙ h.alone q other;
+      unsettled = λ q. append-nil (settled journal q) ∙ h.unsettled q;
       waits = waiting-quiet journal (record { event = Busy 0 0; stamp = stamp }) 0 refl refl refl ∙ h.waits ∙ ap (drop d) same;
       published_is = omega (arith, h.published_is);
       delivered_is = omega (arith, h.delivered_is);
@@ -191,6 +195,7 @@ kept-confirmed {journal} {p} {d} {k} {bodies} {places} {told} stamp h later left
       numbered = ap ids (append-nil (line journal 0)) ∙ h.numbered;
       short = subst AreShort same h.short;
       alone = λ q other. append-nil (line journal q) ∙ h.alone q other;
+      unsettled = λ q. append-nil (settled journal q) ∙ h.unsettled q;
       waits = waiting-quiet journal (record { event = Confirmed 0 k (k + 1); stamp = stamp }) 0 refl refl refl ∙ h.waits ∙ ap (drop d) same;
       published_is = omega (arith, h.published_is);
       delivered_is = omega (arith, h.delivered_is);

@@ -5,7 +5,7 @@ use Rattle.cq_journal.specs.declared.event.Entry.{Entry}
 use Rattle.cq_journal.specs.declared.event.Event.TheVariants.{Confirmed}
 use Rattle.cq_journal.specs.declared.event.Message.{Message}
 use Rattle.cq_journal.specs.declared.reply.Reply.{Reply}
-use Rattle.cq_journal.specs.History.{line, waiting, unacked}
+use Rattle.cq_journal.specs.History.{line, waiting, unacked, settled}
 use Rattle.cq_journal.specs.Legal.{Legal, published, delivered, brings, has, is_publish, is_confirmed_by}
 use Rattle.cq_journal.specs.Asks.{asks, replies}
 use Rattle.cq_node.specs.declared.queue.Spot.{Spot}
@@ -36,6 +36,7 @@ pub record IsKept (journal : List Entry) (publishes deliveries confirms : ℕ) (
   pub numbered : ids (line journal 0) ≡ range_with_len 1 publishes
   pub short : AllByRecursion (λ m. length m.body ≤ 1048576) (line journal 0)
   pub alone : (q : ℕ) → q ≢ 0 → line journal q ≡ []
+  pub unsettled : (q : ℕ) → settled journal q ≡ []
   pub waits : waiting journal 0 ≡ drop deliveries (line journal 0)
   pub published_is : published journal 0 ≡ publishes
   pub delivered_is : delivered journal 0 ≡ deliveries
@@ -52,6 +53,11 @@ pub record IsKept (journal : List Entry) (publishes deliveries confirms : ℕ) (
   pub confirms_below : confirms ≤ publishes
   pub bodies_are : bodies ≡ bodies_of (drop confirms (line journal 0))
   pub places_are : places ≡ drop deliveries (spots_of 128 (take confirms (line journal 0)))
+
+-- the messages have the ids 1, 2, 3 and so on, and no body is too long
+pub record AreWritable (journal : List Entry) : Type 0 where
+  pub numbered : ids (line journal 0) ≡ range_with_len 1 (published journal 0)
+  pub short : AllByRecursion (λ m. length m.body ≤ 1048576) (line journal 0)
 
 -- the replies are those of the journal, with their bodies
 abbrev pub IsWhole : State → Type 0

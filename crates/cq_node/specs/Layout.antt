@@ -2,13 +2,15 @@
 use Rattle.std.specs.Prelude.{◌≡◌, ◌≢◌, ℕ, ◌+◌, ◌≤◌, List, [], ◌∷◌, ◌++◌, length, take, drop, Option, None}
 use Rattle.cq_disk.specs.declared.name.Name.{Name}
 use Rattle.cq_disk.specs.File.{File}
+use Rattle.cq_entry.specs.declared.entry.Entry.{Entry as IndexEntry}
 use Rattle.cq_entry.specs.declared.entry.EntryKind.TheVariants.{Small}
-use Rattle.cq_entry.specs.Entry.{entry_bytes}
-use Rattle.cq_small.specs.Record.{small_record}
+use Rattle.cq_small.specs.Record.{small_record, StandsIn}
+use Rattle.cq_small.specs.Store.{small_name}
+use Rattle.cq_index.specs.Places.{index_name, entries_bytes}
 use Rattle.cq_journal.specs.declared.event.Entry.{Entry}
 use Rattle.cq_journal.specs.declared.event.Message.{Message}
 use Rattle.cq_journal.specs.History.{line, waiting}
-use Rattle.cq_held.specs.Held.{index_name, small_name, bytes_in, content_of, StandsAt}
+use Rattle.cq_held.specs.Held.{bytes_in, content_of}
 use Rattle.cq_node.specs.declared.queue.Spot.{Spot}
 use Rattle.cq_journal.specs.Confirms.{confirmed}
 
@@ -22,14 +24,14 @@ abbrev pub spots_of : ℕ → List Message → List Spot
 spots_of base [] = []
 spots_of base (m ∷ ms) = record { place = base; len = length m.body } ∷ spots_of (base + length m.body + 5) ms
 
--- the bytes of a small message's entry
-abbrev pub entry_at : ℕ → Message → List ℕ
-entry_at place m = entry_bytes (record { kind = Small; len = length m.body; id = m.id; place = place })
+-- the entry of a message whose record stands here
+abbrev pub entry_of : ℕ → Message → IndexEntry
+entry_of place m = record { kind = Small; len = length m.body; id = m.id; place = place }
 
 -- the entries of messages whose records stand one after another, the first one here
-abbrev pub entries_of : ℕ → List Message → List ℕ
+abbrev pub entries_of : ℕ → List Message → List IndexEntry
 entries_of base [] = []
-entries_of base (m ∷ ms) = entry_at base m ++ entries_of (base + length m.body + 5) ms
+entries_of base (m ∷ ms) = entry_of base m ∷ entries_of (base + length m.body + 5) ms
 
 -- the messages that are confirmed, and those that aren't
 abbrev pub stored : List Entry → List Message
@@ -59,7 +61,7 @@ pub record IsStoredFirst (journal : List Entry) (spot : Spot) : Type 0 where
   pub len : spot.len ≡ length message.body
   pub short : spot.len ≤ 1048576
   pub ends : spot.place + spot.len + 5 ≤ records_end journal
-  pub stands : StandsAt (records_of (stored journal)) spot.place (small_record message.body)
+  pub stands : StandsIn (records_of (stored journal)) spot.place message.body
 
 -- the content of a file, and none where it isn't there
 abbrev pub content_in : Option File → List ℕ
@@ -68,11 +70,11 @@ content_in file = content_of (bytes_in file)
 -- the files have the records and the entries of the confirmed messages, and no other file is there
 pub record AreStored (journal : List Entry) (files : Name → Option File) : Type 0 where
   pub records : content_in (files (small_name 0 0)) ≡ records_of (stored journal)
-  pub entries : content_in (files (index_name 0 0)) ≡ entries_of 128 (stored journal)
+  pub entries : content_in (files (index_name 0 0)) ≡ entries_bytes (entries_of 128 (stored journal))
   pub others : (n : Name) → n ≢ small_name 0 0 → n ≢ index_name 0 0 → files n ≡ None
 
--- these bytes have joined the records and the entries
-pub record Joins (more_records more_entries : List ℕ) (old new : Name → Option File) : Type 0 where
+-- these records and entries have joined the others
+pub record Joins (more_records : List ℕ) (more_entries : List IndexEntry) (old new : Name → Option File) : Type 0 where
   pub records : content_in (new (small_name 0 0)) ≡ content_in (old (small_name 0 0)) ++ more_records
-  pub entries : content_in (new (index_name 0 0)) ≡ content_in (old (index_name 0 0)) ++ more_entries
+  pub entries : content_in (new (index_name 0 0)) ≡ content_in (old (index_name 0 0)) ++ entries_bytes more_entries
   pub others : (n : Name) → n ≢ small_name 0 0 → n ≢ index_name 0 0 → new n ≡ old n

@@ -7,3 +7,4 @@ pub mod Batch
 pub mod Confirming
 pub mod Files
 pub mod Turned
+pub mod Agreeing

@@ -5,7 +5,7 @@ ghost use Rattle.cq_node.specs.Batch.{IsBatch, numbered};
 
 use crate::queue::Spot;
 use cq_bytes::Body;
-use cq_entry::{Entry, EntryKind, encode};
+use cq_entry::{Entry, EntryKind};
 use cq_small::SmallBatch;
 use std::alloc::{AllocError, Global};
 use std::collections::VecDeque;
@@ -14,7 +14,7 @@ use std::collections::VecDeque;
 #[derive(Drop)]
 pub(crate) struct Batch {
     pub records: SmallBatch,
-    pub entries: Vec<u8>,
+    pub entries: Vec<Entry>,
     pub spots: Vec<Spot>,
 }
 
@@ -59,7 +59,7 @@ impl Batch {
             id,
             place,
         };
-        self.entries.extend_from_slice(&encode(&entry))?;
+        self.entries.push(entry)?;
         self.spots.push(Spot { place, len })?;
         Ok(())
     }

@@ -13,9 +13,13 @@ ghost use Rattle.cq_journal.specs.Asks.{asks, replies};
 ghost use Rattle.cq_node.specs.declared.outcome.NodeError.TheVariants.{Fault as node_fault};
 ghost use Rattle.cq_node.specs.Answers.{Answers, bodiless};
 ghost use Rattle.cq_held.specs.Held.{as_read, Held};
+ghost use Rattle.cq_held.specs.Steady.{Steady, SteadyWhere-prop};
+ghost use Rattle.cq_held.specs.Standing.{Standing};
+ghost use Rattle.cq_node.specs.Agreeing.{stored_lines};
 ghost use Rattle.cq_node.specs.Core.{IsWhole};
-ghost use Rattle.cq_node.specs.Files.{end_of, add_calls};
-ghost use Rattle.cq_node.specs.Layout.{records_end, AreStored};
+ghost use Rattle.cq_index.specs.Segments.{count_of};
+ghost use Rattle.cq_node.specs.Files.{small_end, add_calls};
+ghost use Rattle.cq_node.specs.Layout.{records_end, stored, AreStored};
 ghost use Rattle.cq_node.specs.Found.{Finds};
 ghost use Rattle.cq_node.specs.Turned.{Turned, Answered, Wrote, IsIdle, HasDone};
 ghost use Rattle.cq_node.specs.Waiting.{is_servable, AreServable, kept_count};
@@ -45,9 +49,12 @@ pub struct Node<D: Disk> {
 
     ghost stamped: { newest core.entries ≤ D.moment store.disk },
     ghost few: { publishes (asks core.entries 0) + publishes waiting.requests ≤ 4096 },
-    ghost placed: { store.halted ≡ false → end_of store.small ≡ records_end core.entries },
+    ghost placed: { store.halted ≡ false → small_end store.small ≡ records_end core.entries },
+    ghost counted: { store.halted ≡ false → count_of store.index ≡ length (stored core.entries) },
     ghost filed: { store.halted ≡ false → D.tells → AreStored core.entries (D.files store.disk) },
     ghost whole: { D.tells → IsWhole core },
+    ghost standing: { store.halted ≡ false → D.tells → ∥ Standing (D.files store.disk) core.entries (stored_lines core.entries) ∥₁ },
+    ghost steady: { D.tells → Steady (D.left store.disk) (D.moment store.disk) core.entries } by { SteadyWhere-prop D.tells (D.left store.disk) (D.moment store.disk) core.entries },
     ghost one_client: { config.clients ≡ 1 },
 }
 
@@ -92,7 +99,7 @@ impl<D: Disk> Node<D> {
                 config,
                 core,
                 waiting: Waiting::new(inbox),
-                store: Store::new(disk),
+                store: Store::new(alloc, disk),
             }),
             Err(_) => Err(OpenRefused { disk, inbox }),
         }
@@ -117,7 +124,7 @@ impl<D: Disk> Node<D> {
     /// stands before the others, and nothing else of the journal and the requests has changed.
     pub fn turn(&mut self, client: u32) -> Result<Turn, NodeError>
         requires client { client < self.old.config.clients }
-        ensures turned { Turned result self.old.core.entries self.new.core.entries self.old.waiting.requests self.new.waiting.requests }
+        ensures turned { Turned result (D.moment self.old.store.disk) self.old.core.entries self.new.core.entries self.old.waiting.requests self.new.waiting.requests }
         ensures legal { Legal self.new.core.entries }
         ensures none_kept { OnOk result (self.new.waiting.kept ≡ false) }
         ensures config { self.new.config ≡ self.old.config }
@@ -151,7 +158,7 @@ impl<D: Disk> Node<D> {
         requires taken { self.old.waiting.kept ≡ false }
         requires one_queue { queues ≡ 0 ∷ [] }
         requires few { publishes (asks self.old.core.entries 0) + publishes self.old.waiting.requests < 4096 }
-        ensures turned { Turned result self.old.core.entries self.new.core.entries (Request.Publish queues body ∷ self.old.waiting.requests) self.new.waiting.requests }
+        ensures turned { Turned result (D.moment self.old.store.disk) self.old.core.entries self.new.core.entries (Request.Publish queues body ∷ self.old.waiting.requests) self.new.waiting.requests }
         ensures legal { Legal self.new.core.entries }
         ensures none_kept { OnOk result (self.new.waiting.kept ≡ false) }
         ensures config { self.new.config ≡ self.old.config }
@@ -173,7 +180,7 @@ impl<D: Disk> Node<D> {
         requires open { self.old.store.halted ≡ false }
         requires reserved { 0 < self.old.core.reserved }
         requires taken { self.old.waiting.kept ≡ false }
-        ensures turned { Turned result self.old.core.entries self.new.core.entries (Request.Get 0 ∷ self.old.waiting.requests) self.new.waiting.requests }
+        ensures turned { Turned result (D.moment self.old.store.disk) self.old.core.entries self.new.core.entries (Request.Get 0 ∷ self.old.waiting.requests) self.new.waiting.requests }
         ensures legal { Legal self.new.core.entries }
         ensures none_kept { OnOk result (self.new.waiting.kept ≡ false) }
         ensures config { self.new.config ≡ self.old.config }
@@ -198,7 +205,7 @@ impl<D: Disk> Node<D> {
     fn answer_get(&mut self) -> Result<(), NodeError>
         requires open { self.old.store.halted ≡ false }
         requires reserved { 0 < self.old.core.reserved }
-        ensures answered { Answered (Request.Get 0) result self.old.core.entries self.new.core.entries }
+        ensures answered { Answered (Request.Get 0) result (D.moment self.old.store.disk) self.old.core.entries self.new.core.entries }
         ensures waiting { self.new.waiting ≡ self.old.waiting }
         ensures legal { Legal self.new.core.entries }
         ensures config { self.new.config ≡ self.old.config }
@@ -237,7 +244,7 @@ impl<D: Disk> Node<D> {
         requires open { self.old.store.halted ≡ false }
         requires reserved { 0 < self.old.core.reserved }
         requires found { Finds (Next.Stored spot) self.old.core }
-        ensures answered { Answered (Request.Get 0) result self.old.core.entries self.new.core.entries }
+        ensures answered { Answered (Request.Get 0) result (D.moment self.old.store.disk) self.old.core.entries self.new.core.entries }
         ensures waiting { self.new.waiting ≡ self.old.waiting }
         ensures legal { Legal self.new.core.entries }
         ensures config { self.new.config ≡ self.old.config }
@@ -265,10 +272,10 @@ impl<D: Disk> Node<D> {
     /// to the index, and confirms them. `Idle` exactly where all are confirmed; then the files hold exactly the messages
     /// of the queue. After want of memory nothing has changed.
     pub fn write_step(&mut self) -> Result<Step, NodeError>
-        ensures wrote { Wrote result self.old.core.entries self.new.core.entries }
+        ensures wrote { Wrote result (D.moment self.old.store.disk) self.old.core.entries self.new.core.entries }
         ensures idle { IsIdle result → AreConfirmed self.new.core.entries × (self.new.store ≡ self.old.store) }
         ensures held { IsIdle result → D.tells → Held (as_read (D.files self.new.store.disk)) (line self.new.core.entries) }
-        ensures calls { HasDone result → D.moment self.new.store.disk ≡ D.moment self.old.store.disk + (add_calls self.old.store.small + add_calls self.old.store.index) }
+        ensures calls { HasDone result → D.moment self.new.store.disk ≡ D.moment self.old.store.disk + (add_calls self.old.store.small + add_calls self.old.store.small) }
         ensures waiting { self.new.waiting ≡ self.old.waiting }
         ensures legal { Legal self.new.core.entries }
         ensures config { self.new.config ≡ self.old.config }
@@ -297,10 +304,10 @@ impl<D: Disk> Node<D> {
         ) else {
             return Err(NodeError::Memory);
         };
-        if self.core.reserve(count).is_err() {
+        if self.core.reserve(count).is_err() || self.store.reserve(count).is_err() {
             return Err(NodeError::Memory);
         }
-        let written = self.store.commit(batch.records.bytes(), &batch.entries);
+        let written = self.store.commit(&batch.records, &batch.entries);
         if written.is_err() {
             return Err(NodeError::Fault);
         }
@@ -345,6 +352,8 @@ impl<D: Disk> Node<D> {
         ensures disk { result.disk ≡ self.store.disk }
         ensures journal { result.journal.entries ≡ self.core.entries }
         ensures legal { Legal result.journal.entries }
+        // Every image that a crash may have left since an entry, and until the next one, agrees with the journal up to it.
+        ensures steady { D.tells → Steady (D.left result.disk) (D.moment result.disk) result.journal.entries }
     {
         let Node {
             alloc: _,

@@ -2,10 +2,10 @@
 ghost use Rattle.std.specs.Prelude.{◌≡◌, ◌≢◌, ◌<◌, ◌≤◌, ◌+◌, ◌^◌, ◌∷◌, ◌++◌, [], List, ℕ, IfOk, OnOk, OnErr, length, map, drop};
 ghost use Rattle.std.specs.VecDeque.{deque_len, deque_capacity};
 ghost use Rattle.cq_journal.specs.Confirms.{AreConfirmed};
-ghost use Rattle.cq_journal.specs.History.{line, unacked, waiting};
+ghost use Rattle.cq_journal.specs.History.{line, unacked, waiting, settled};
 ghost use Rattle.cq_journal.specs.Legal.{Legal, newest, published};
 ghost use Rattle.cq_journal.specs.Asks.{asks, replies};
-ghost use Rattle.cq_node.specs.Answers.{Answers, bodiless};
+ghost use Rattle.cq_node.specs.Answers.{Answers, AddsSince, bodiless};
 
 use cq_bytes::{Body, Queues};
 use cq_inbox::Request;
@@ -67,7 +67,9 @@ impl Model for Core {
 
 impl Core {
     ghost use Rattle.cq_node.specs.Found.{Finds, HoldsFirst, IsFirstBody};
-    ghost use Rattle.cq_node.specs.Core.{undecided, bodies_of, Confirms, IsQuiet, IsWhole};
+    ghost use Rattle.cq_node.specs.Core.{AreWritable, undecided, bodies_of, Confirms, IsQuiet, IsWhole};
+    ghost use Rattle.cq_held.specs.Standing.{confirm_all};
+    ghost use Rattle.cq_node.specs.Agreeing.{passes};
     ghost use Rattle.cq_node.specs.Batch.{numbered};
     ghost use Rattle.cq_journal.specs.Confirms.{confirmed};
     ghost use Rattle.cq_node.specs.Layout.{next_spots, IsFirstSpot, stored, unstored};
@@ -256,6 +258,8 @@ impl Core {
         requires later { newest self.old.entries ≤ stamp }
         ensures none { undecided self.new.entries ≡ 0 }
         ensures quiet { IsQuiet self.old.entries self.new.entries }
+        ensures since { AddsSince stamp self.old.entries self.new.entries }
+        ensures exact { self.new.entries ≡ confirm_all stamp (passes (confirmed self.old.entries) (length spots.now)) self.old.entries }
         ensures all { stored self.new.entries ≡ line self.old.entries 0 }
         ensures later { newest self.new.entries ≤ stamp }
         ensures whole { IsWhole self.old → IsWhole self.new }
@@ -308,7 +312,9 @@ impl Core {
         ensures legal { Legal self.now.entries }
         ensures confirmed { undecided self.now.entries ≡ 0 → AreConfirmed self.now.entries }
         ensures alone { (q : ℕ) → q ≢ 0 → line self.now.entries q ≡ [] }
+        ensures unsettled { (q : ℕ) → settled self.now.entries q ≡ [] }
         ensures stored { undecided self.now.entries ≡ 0 → stored self.now.entries ≡ line self.now.entries 0 }
+        ensures writable { AreWritable self.now.entries }
     {
         &self.journal
     }

@@ -1,8 +1,10 @@
 -- The rows that are computed are those of the definition.
-use Rattle.std.proofs.Common.{◌≡◌, ◌≢◌, ℕ, true, not, List, [], ◌∷◌, length, refl, ap, ◌∙◌, subst, inl, inr}
+use Rattle.std.proofs.Common.{◌≡◌, ◌≢◌, ℕ, true, not, List, [], ◌∷◌, length, refl, inl, inr, sym, subst, arith}
 use Rattle.std.specs.Prelude.{◌==◌, ◌&&◌, nat_lt}
 use Rattle.std.specs.List.{list_all, AllByRecursion}
 use Rattle.std.proofs.lemmas.Bool.{and_parts, and_from, or_cases, or_left, or_right, ltb-true, lt-ltb, eqb-true, eqb-false, eq-eqb, ne_eqb, not-true, not_from_false, cases_eq, both_ways}
+use Rattle.std.specs.Str.{bytes_eq}
+use Rattle.std.proofs.lemmas.Slice.Eq.{bytes_eq-Decides}
 use Rattle.cq_bytes.specs.Numbers.{contains, AreQueues}
 use Rattle.cq_journal.specs.declared.event.Event.{Event}
 use Rattle.cq_journal.specs.declared.event.Event.TheVariants.{Opened, Published, Delivered, Empty, Busy, Acked, Unknown, Dropped, Ended, Confirmed, Settled}
@@ -10,38 +12,27 @@ use Rattle.cq_journal.specs.declared.event.Entry.{Entry}
 use Rattle.cq_journal.specs.declared.lines.Line.{Line}
 use Rattle.cq_journal.specs.declared.event.Message.{Message}
 use Rattle.cq_journal.specs.History.{unacked, is_open, acked, settled, waiting}
-use Rattle.cq_journal.specs.Legal.{published, delivered, has, brings, is_publish, is_confirmed_by, is_dropped_by, IsFirst, AreLines, Allowed, StartsWithOpened}
-use Rattle.cq_plain.specs.Table.{same_bytes, agree, are_lines, are_queues, is_nothing, is_first, starts, allows, IsExact}
+use Rattle.cq_journal.specs.Legal.{published, delivered, has, brings, is_publish, is_confirmed_by, is_dropped_by, IsFirst, AreLines, Allowed, StartsWithOpened, newest, Legal}
+use Rattle.cq_plain.specs.Table.{agree, are_lines, are_queues, is_nothing, is_first, starts, allows, may_follow, IsExact}
 
 -- ---- the parts of the rows
-
-bytes-same : (xs ys : List ℕ) → same_bytes xs ys ≡ true → xs ≡ ys
-bytes-same [] [] h = refl
-bytes-same [] (y ∷ ys) h = cc
-bytes-same (x ∷ xs) [] h = cc
-bytes-same (x ∷ xs) (y ∷ ys) h =
-    let p = and_parts (x == y) (same_bytes xs ys) h in ap (λ z. z ∷ xs) (eqb-true x y p.0) ∙ ap (λ zs. y ∷ zs) (bytes-same xs ys p.1)
-
-same-bytes : (xs : List ℕ) → same_bytes xs xs ≡ true
-same-bytes [] = refl
-same-bytes (x ∷ xs) = and_from (x == x) (same_bytes xs xs) (eq-eqb x x refl) (same-bytes xs)
 
 abbrev Agree : Line → Line → Type 0
 Agree l k = l.id ≡ k.id → (l.queue ≢ k.queue) × (l.body ≡ k.body)
 
 agree-true : (l k : Line) → agree l k ≡ true → Agree l k
-agree-true l k h e = elim (or_cases (not (l.id == k.id)) (not (l.queue == k.queue) && same_bytes l.body k.body) h) [
+agree-true l k h e = elim (or_cases (not (l.id == k.id)) (not (l.queue == k.queue) && bytes_eq l.body k.body) h) [
   | inl n ↦ absurd (both_ways (l.id == k.id) (not-true (l.id == k.id) n) (eq-eqb l.id k.id e))
-  | inr a ↦ (let p = and_parts (not (l.queue == k.queue)) (same_bytes l.body k.body) a in (eqb-false l.queue k.queue (not-true (l.queue == k.queue) p.0), bytes-same l.body k.body p.1))
+  | inr a ↦ (let p = and_parts (not (l.queue == k.queue)) (bytes_eq l.body k.body) a in (eqb-false l.queue k.queue (not-true (l.queue == k.queue) p.0), (bytes_eq-Decides l.body k.body).0 p.1))
 ]
 
 true-agree : (l k : Line) → Agree l k → agree l k ≡ true
 true-agree l k a = elim (cases_eq l.id k.id) [
-  | inr n ↦ or_left (not (l.id == k.id)) (not (l.queue == k.queue) && same_bytes l.body k.body) (not_from_false (l.id == k.id) (ne_eqb l.id k.id n))
+  | inr n ↦ or_left (not (l.id == k.id)) (not (l.queue == k.queue) && bytes_eq l.body k.body) (not_from_false (l.id == k.id) (ne_eqb l.id k.id n))
   | inl e ↦ (
       let p = a e in
-      or_right (not (l.id == k.id)) (not (l.queue == k.queue) && same_bytes l.body k.body)
-      (and_from (not (l.queue == k.queue)) (same_bytes l.body k.body) (not_from_false (l.queue == k.queue) (ne_eqb l.queue k.queue p.0)) (subst (λ ys. same_bytes l.body ys ≡ true) p.1 (same-bytes l.body))))
+      or_right (not (l.id == k.id)) (not (l.queue == k.queue) && bytes_eq l.body k.body)
+      (and_from (not (l.queue == k.queue)) (bytes_eq l.body k.body) (not_from_false (l.queue == k.queue) (ne_eqb l.queue k.queue p.0)) ((bytes_eq-Decides l.body k.body).1 p.1)))
 ]
 
 all-agree : (l : Line) (ls : List Line) → list_all (agree l) ls ≡ true → AllByRecursion (Agree l) ls
@@ -70,7 +61,7 @@ queues-true (q ∷ qs) h =
     let r = and_parts (not (contains qs q)) (are_queues qs) p.1 in
     (ltb-true q 256 p.0, not-true (contains qs q) r.0, queues-true qs r.1)
 
-true-queues : (qs : List ℕ) → AreQueues qs → are_queues qs ≡ true
+pub true-queues : (qs : List ℕ) → AreQueues qs → are_queues qs ≡ true
 true-queues [] a = refl
 true-queues (q ∷ qs) a = and_from (nat_lt q 256) (not (contains qs q) && are_queues qs) (lt-ltb q 256 a.0) (and_from (not (contains qs q)) (are_queues qs) (not_from_false (contains qs q) a.1) (true-queues qs a.2))
 
@@ -165,3 +156,9 @@ exact past e = (
   λ h. (let p = and_parts (allows past e) (starts past e) h in (allows-true past e p.0, starts-true past e p.1)),
   λ a. and_from (allows past e) (starts past e) (true-allows past e a.0) (true-starts past e a.1),
 )
+
+-- with an event that may follow a history stays legal
+pub legal-more : (past now : List Entry) (e : Event) → now ≡ record { event = e; stamp = 0 } ∷ past → may_follow past e ≡ true → Legal past × (newest past ≡ 0) → Legal now × (newest now ≡ 0)
+legal-more past now e same h l =
+    let a = (exact past e).0 h in
+    subst (λ (entries : List Entry). Legal entries × (newest entries ≡ 0)) (sym same) ((a.0, a.1, omega (arith, l.1), l.0), refl)

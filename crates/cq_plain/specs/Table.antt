@@ -1,6 +1,7 @@
 -- Whether an event may follow the entries before it, row by row.
 use Rattle.std.specs.Prelude.{◌≡◌, ℕ, Bool, true, false, not, ◌==◌, ◌&&◌, ◌||◌, nat_lt, List, [], ◌∷◌, length, ◌↔◌}
 use Rattle.std.specs.List.{list_all}
+use Rattle.std.specs.Str.{bytes_eq}
 use Rattle.cq_bytes.specs.Numbers.{contains}
 use Rattle.cq_journal.specs.declared.event.Event.{Event}
 use Rattle.cq_journal.specs.declared.event.Event.TheVariants.{Opened, Published, Delivered, Empty, Busy, Acked, Unknown, Dropped, Ended, Confirmed, Settled}
@@ -10,15 +11,9 @@ use Rattle.cq_journal.specs.declared.event.Message.{Message}
 use Rattle.cq_journal.specs.History.{unacked, is_open, acked, settled, waiting}
 use Rattle.cq_journal.specs.Legal.{published, delivered, has, brings, is_publish, is_confirmed_by, is_dropped_by, Allowed, StartsWithOpened}
 
-abbrev pub same_bytes : List ℕ → List ℕ → Bool
-same_bytes [] [] = true
-same_bytes [] (y ∷ ys) = false
-same_bytes (x ∷ xs) [] = false
-same_bytes (x ∷ xs) (y ∷ ys) = x == y && same_bytes xs ys
-
 -- whether two messages of an opening may stand there: one id stands in different queues and has one body
 abbrev pub agree : Line → Line → Bool
-agree l k = not (l.id == k.id) || (not (l.queue == k.queue) && same_bytes l.body k.body)
+agree l k = not (l.id == k.id) || (not (l.queue == k.queue) && bytes_eq l.body k.body)
 
 abbrev pub are_lines : List Line → Bool
 are_lines [] = true

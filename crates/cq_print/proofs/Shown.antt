@@ -1,10 +1,9 @@
 -- The lines with the bodies that are found by their ids are the text of a legal session.
-use Rattle.std.proofs.Common.{◌≡◌, ◌≢◌, ℕ, zero, suc, ◌≤◌, ◌<◌, true, false, cond, List, [], ◌∷◌, ◌++◌, length, refl, sym, ap, ◌∙◌, subst, append-nil, arith}
+use Rattle.std.proofs.Common.{◌≡◌, ◌≢◌, ℕ, zero, suc, ◌≤◌, ◌<◌, true, false, cond, List, [], ◌∷◌, ◌++◌, length, map, refl, sym, ap, ◌∙◌, subst, append-nil, arith}
 use Rattle.std.specs.Prelude.{◌==◌, ◌||◌, Option, unwrap_or, Result, OnOk}
-use Rattle.std.specs.Io.KnownBytes.{Appends}
-use Rattle.std.specs.List.{flat_map}
+use Rattle.cq_io.specs.Streams.{Adds}
 use Rattle.std.proofs.lemmas.Bool.{eqb-true, eq-eqb, ne_eqb}
-use Rattle.std.proofs.lemmas.List.Concat.{flat_map-append}
+use Rattle.std.proofs.lemmas.List.{map-append}
 use Rattle.cq_bytes.specs.Numbers.{contains}
 use Rattle.cq_journal.specs.declared.reply.Reply.{Reply}
 use Rattle.cq_journal.specs.declared.reply.Reply.TheVariants as reply
@@ -29,19 +28,19 @@ agrees-before bodies e past l a x h =
     ∙ ap (λ o. or_else o (find_body x past)) (unbrought-body e.event past x l.0 h)
 
 -- the lines of a reply of the client's own
-own-lines : (c client : ℕ) (r : Reply) → flat_map (reply_line c) (own client c r) ≡ cond (client == c) (reply_line client r) []
+own-lines : (c client : ℕ) (r : Reply) → map (reply_line c) (own client c r) ≡ cond (client == c) (reply_line client r ∷ []) []
 own-lines c client r =
-    (elim (client == c) as (λ t. (client == c) ≡ t → flat_map (reply_line c) (cond t (r ∷ []) []) ≡ cond t (reply_line client r) []) [
-      | true ↦ λ t. append-nil (reply_line c r) ∙ ap (λ n. reply_line n r) (sym (eqb-true client c t))
+    (elim (client == c) as (λ t. (client == c) ≡ t → map (reply_line c) (cond t (r ∷ []) []) ≡ cond t (reply_line client r ∷ []) []) [
+      | true ↦ λ t. ap (λ n. reply_line n r ∷ []) (sym (eqb-true client c t))
       | false ↦ λ t. refl
     ]) refl
 
 event-lines : (e : Event) (past : List Entry) (c : ℕ) (bodies : ℕ → Option (List ℕ)) → Allowed past e → Legal past → Agrees bodies past
-    → own_line bodies c e ≡ flat_map (reply_line c) (reply_of past c e)
+    → own_line bodies c e ≡ map (reply_line c) (reply_of past c e)
 event-lines (event.Published client number id queues body) past c bodies a l f = sym (own-lines c client (reply.Published number))
 event-lines (event.Delivered client number q id) past c bodies a l f =
     let stands = first-brought past q id a.1 in
-    ap (λ o. cond (client == c) (reply_line client (reply.Got number q (unwrap_or o []))) []) (f id (brought past q id stands) ∙ found past q id l stands)
+    ap (λ o. cond (client == c) (reply_line client (reply.Got number q (unwrap_or o [])) ∷ []) []) (f id (brought past q id stands) ∙ found past q id l stands)
     ∙ sym (own-lines c client (reply.Got number q (body_of id (line past q))))
 event-lines (event.Empty client q) past c bodies a l f = sym (own-lines c client (reply.Empty q))
 event-lines (event.Busy client q) past c bodies a l f = sym (own-lines c client (reply.Busy q))
@@ -52,7 +51,7 @@ event-lines _ past c bodies a l f = refl
 
 -- with no place left out
 all-told : (past : List Entry) (c place : ℕ) (bodies : ℕ → Option (List ℕ)) → Legal past → Agrees bodies past → length past ≤ place
-    → reply_lines bodies c place past ≡ flat_map (reply_line c) (replies past c)
+    → reply_lines bodies c place past ≡ map (reply_line c) (replies past c)
 all-told [] c place bodies l f n = refl
 all-told (e ∷ past) c place bodies l f n =
     let before = agrees-before bodies e past l f in
@@ -60,8 +59,8 @@ all-told (e ∷ past) c place bodies l f n =
     let shorter : length past ≤ place = omega arith in
     ap (λ b. reply_lines bodies c place past ++ cond b [] (own_line bodies c e.event)) (ne_eqb (length past) place other)
     ∙ ap (λ xs. xs ++ own_line bodies c e.event) (all-told past c place bodies l.3 before shorter)
-    ∙ ap (λ xs. flat_map (reply_line c) (replies past c) ++ xs) (event-lines e.event past c bodies l.0 l.3 before)
-    ∙ sym (flat_map-append (reply_line c) (replies past c) (reply_of past c e.event))
+    ∙ ap (λ xs. map (reply_line c) (replies past c) ++ xs) (event-lines e.event past c bodies l.0 l.3 before)
+    ∙ sym (map-append (reply_line c) (replies past c) (reply_of past c e.event))
 
 place-apart : (past : List Entry) (none c place : ℕ) → length past ≤ place → place < none → last_place none c past ≢ place
 place-apart [] none c place n m = λ s. omega (arith, s)
@@ -71,28 +70,28 @@ place-apart (e ∷ past) none c place n m =
 
 -- with the last delivery left out
 cut-told : (past : List Entry) (c none : ℕ) (bodies : ℕ → Option (List ℕ)) → Legal past → Agrees bodies past → length past ≤ none
-    → reply_lines bodies c (last_place none c past) past ≡ flat_map (reply_line c) (cut_replies past c)
+    → reply_lines bodies c (last_place none c past) past ≡ map (reply_line c) (cut_replies past c)
 cut-told [] c none bodies l f n = refl
 cut-told (e ∷ past) c none bodies l f n =
     let before = agrees-before bodies e past l f in
     let shorter : length past ≤ none = omega arith in
     let apart : length past ≢ last_place none c past = λ s. place-apart past none c (length past) (omega arith) (omega arith) (sym s) in
     elim (is_delivery_to c e.event) as (λ t. reply_lines bodies c (cond t (length past) (last_place none c past)) (e ∷ past)
-    ≡ flat_map (reply_line c) (cond t (replies past c) (cut_replies past c ++ reply_of past c e.event))) [
+    ≡ map (reply_line c) (cond t (replies past c) (cut_replies past c ++ reply_of past c e.event))) [
       | true ↦ ap (λ b. reply_lines bodies c (length past) past ++ cond b [] (own_line bodies c e.event)) (eq-eqb (length past) (length past) refl)
           ∙ append-nil (reply_lines bodies c (length past) past)
           ∙ all-told past c (length past) bodies l.3 before (omega arith)
       | false ↦ ap (λ b. reply_lines bodies c (last_place none c past) past ++ cond b [] (own_line bodies c e.event)) (ne_eqb (length past) (last_place none c past) apart)
           ∙ ap (λ xs. xs ++ own_line bodies c e.event) (cut-told past c none bodies l.3 before shorter)
-          ∙ ap (λ xs. flat_map (reply_line c) (cut_replies past c) ++ xs) (event-lines e.event past c bodies l.0 l.3 before)
-          ∙ sym (flat_map-append (reply_line c) (cut_replies past c) (reply_of past c e.event))
+          ∙ ap (λ xs. map (reply_line c) (cut_replies past c) ++ xs) (event-lines e.event past c bodies l.0 l.3 before)
+          ∙ sym (map-append (reply_line c) (cut_replies past c) (reply_of past c e.event))
     ]
 
 client-told : (past : List Entry) (cut : List ℕ) (c : ℕ) (bodies : ℕ → Option (List ℕ)) → Legal past → Agrees bodies past
     → client_lines bodies past cut c ≡ client_text past cut c
 client-told past cut c bodies l f =
     ap (λ xs. xs ++ confirmed_lines past c)
-    (elim (contains cut c) as (λ t. reply_lines bodies c (cond t (last_place (length past) c past) (length past)) past ≡ flat_map (reply_line c) (cond t (cut_replies past c) (replies past c))) [
+    (elim (contains cut c) as (λ t. reply_lines bodies c (cond t (last_place (length past) c past) (length past)) past ≡ map (reply_line c) (cond t (cut_replies past c) (replies past c))) [
       | true ↦ cut-told past c (length past) bodies l f (omega arith)
       | false ↦ all-told past c (length past) bodies l f (omega arith)
     ])
@@ -105,5 +104,5 @@ clients-told past cut (suc n) bodies l f =
     ∙ ap (λ xs. clients_text past cut n ++ xs) (client-told past cut n bodies l (λ x h. f x))
 
 -- what was put, under another name of its last part
-pub retold : {T E : Type 0} (result : Result T E) (old new : Option (List ℕ)) (head lines text : List ℕ) → lines ≡ text → OnOk result (Appends old new (head ++ lines)) → OnOk result (Appends old new (head ++ text))
-retold result old new head lines text same put = subst (λ (t : List ℕ). OnOk result (Appends old new (head ++ t))) same put
+pub retold : {T E : Type 0} (result : Result T E) (old new : Option (List (List ℕ))) (head : List ℕ) (lines text : List (List ℕ)) → lines ≡ text → OnOk result (Adds old new (head ∷ lines)) → OnOk result (Adds old new (head ∷ text))
+retold result old new head lines text same put = subst (λ (t : List (List ℕ)). OnOk result (Adds old new (head ∷ t))) same put

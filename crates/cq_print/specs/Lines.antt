@@ -29,16 +29,16 @@ line_of bodies (event.Unknown client number) = reply_line client (reply.Unknown 
 line_of bodies (event.Ended client) = reply_line client reply.Ended
 line_of bodies _ = []
 
--- the line of an event that answers the client
-abbrev pub own_line : (ℕ → Option (List ℕ)) → ℕ → Event → List ℕ
-own_line bodies c e = if answers c e then line_of bodies e else []
+-- the line of an event that answers the client, and none of another
+abbrev pub own_line : (ℕ → Option (List ℕ)) → ℕ → Event → List (List ℕ)
+own_line bodies c e = if answers c e then line_of bodies e ∷ [] else []
 
 -- the same of the event at a place, but for the one place that is left out
-abbrev pub line_at : (ℕ → Option (List ℕ)) → ℕ → ℕ → ℕ → Event → List ℕ
+abbrev pub line_at : (ℕ → Option (List ℕ)) → ℕ → ℕ → ℕ → Event → List (List ℕ)
 line_at bodies c left_out place e = if place == left_out then [] else own_line bodies c e
 
 -- the reply lines of a client, but for one place
-abbrev pub reply_lines : (ℕ → Option (List ℕ)) → ℕ → ℕ → List Entry → List ℕ
+abbrev pub reply_lines : (ℕ → Option (List ℕ)) → ℕ → ℕ → List Entry → List (List ℕ)
 reply_lines bodies c left_out [] = []
 reply_lines bodies c left_out (e ∷ past) = reply_lines bodies c left_out past ++ line_at bodies c left_out (length past) e.event
 
@@ -52,10 +52,10 @@ abbrev pub left_out : List Entry → List ℕ → ℕ → ℕ
 left_out past cut c = if contains cut c then last_place (length past) c past else length past
 
 -- the lines of a client
-abbrev pub client_lines : (ℕ → Option (List ℕ)) → List Entry → List ℕ → ℕ → List ℕ
+abbrev pub client_lines : (ℕ → Option (List ℕ)) → List Entry → List ℕ → ℕ → List (List ℕ)
 client_lines bodies past cut c = reply_lines bodies c (left_out past cut c) past ++ confirmed_lines past c
 
 -- the lines of the clients below a number, rising
-abbrev pub clients_lines : (ℕ → Option (List ℕ)) → List Entry → List ℕ → ℕ → List ℕ
+abbrev pub clients_lines : (ℕ → Option (List ℕ)) → List Entry → List ℕ → ℕ → List (List ℕ)
 clients_lines bodies past cut zero = []
 clients_lines bodies past cut (suc n) = clients_lines bodies past cut n ++ client_lines bodies past cut n

@@ -1,6 +1,5 @@
--- The text of a session.
-use Rattle.std.specs.Prelude.{ℕ, zero, suc, ◌+◌, ◌==◌, Bool, false, nat_le, if◌then◌else◌, List, [], ◌∷◌, ◌++◌, length, max, codes}
-use Rattle.std.specs.List.{flat_map}
+-- The text of a session: its lines, each with its LF.
+use Rattle.std.specs.Prelude.{ℕ, zero, suc, ◌+◌, ◌==◌, Bool, false, nat_le, if◌then◌else◌, List, [], ◌∷◌, ◌++◌, length, map, max, codes}
 use Rattle.std.specs.Fmt.{decimal}
 use Rattle.hex.specs.Hex.{encode_lower}
 use Rattle.sha2.specs.Sha256.{sha256}
@@ -43,13 +42,13 @@ confirmed_line client number = codes "c" ++ decimal client ++ codes " confirmed 
 abbrev pub session_line : ℕ → List ℕ
 session_line number = codes "session " ++ decimal number ++ 10 ∷ []
 
--- the line of an event that confirms a message of the client
-abbrev pub confirm_of : ℕ → Event → List ℕ
-confirm_of c (event.Confirmed client number id) = if client == c then confirmed_line c number else []
+-- the line of an event that confirms a message of the client, and none of another
+abbrev pub confirm_of : ℕ → Event → List (List ℕ)
+confirm_of c (event.Confirmed client number id) = if client == c then confirmed_line c number ∷ [] else []
 confirm_of c _ = []
 
--- the confirms of a client, in order
-abbrev pub confirmed_lines : List Entry → ℕ → List ℕ
+-- the lines of the confirms of a client, in order
+abbrev pub confirmed_lines : List Entry → ℕ → List (List ℕ)
 confirmed_lines [] c = []
 confirmed_lines (e ∷ past) c = confirmed_lines past c ++ confirm_of c e.event
 
@@ -68,8 +67,8 @@ abbrev pub told : List Entry → List ℕ → ℕ → List Reply
 told past cut c = if contains cut c then cut_replies past c else replies past c
 
 -- the lines of a client
-abbrev pub client_text : List Entry → List ℕ → ℕ → List ℕ
-client_text past cut c = flat_map (reply_line c) (told past cut c) ++ confirmed_lines past c
+abbrev pub client_text : List Entry → List ℕ → ℕ → List (List ℕ)
+client_text past cut c = map (reply_line c) (told past cut c) ++ confirmed_lines past c
 
 -- one more than the number of the client of an event, where it has one
 abbrev pub client_end : Event → ℕ
@@ -89,10 +88,10 @@ clients_end [] = 0
 clients_end (e ∷ past) = max (clients_end past) (client_end e.event)
 
 -- the lines of the clients below a number, rising
-abbrev pub clients_text : List Entry → List ℕ → ℕ → List ℕ
+abbrev pub clients_text : List Entry → List ℕ → ℕ → List (List ℕ)
 clients_text past cut zero = []
 clients_text past cut (suc n) = clients_text past cut n ++ client_text past cut n
 
--- the text of a session
-abbrev pub text_of : ℕ → List Entry → List ℕ → List ℕ
-text_of number past cut = session_line number ++ clients_text past cut (clients_end past)
+-- the text of a session, line by line
+abbrev pub text_of : ℕ → List Entry → List ℕ → List (List ℕ)
+text_of number past cut = session_line number ∷ clients_text past cut (clients_end past)

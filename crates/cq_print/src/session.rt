@@ -1,8 +1,8 @@
 // The text of a session, one put a line.
-ghost use Rattle.std.specs.Prelude.{◌≡◌, ◌≤◌, ◌^◌, ◌++◌, [], IfOk, OnOk, reverse, length, if◌then◌else◌};
-ghost use Rattle.std.specs.Io.KnownBytes.{Appends};
+ghost use Rattle.std.specs.Prelude.{◌≡◌, ◌≤◌, ◌^◌, ◌++◌, ◌∷◌, [], IfOk, OnOk, reverse, length, if◌then◌else◌};
 ghost use Rattle.cq_bytes.specs.Numbers.{contains};
 ghost use Rattle.cq_disk.specs.Call.{CausedOf};
+ghost use Rattle.cq_io.specs.Streams.{Adds};
 ghost use Rattle.cq_journal.specs.Legal.{Legal};
 ghost use Rattle.cq_print.specs.Text.{session_line, text_of, confirm_of, confirmed_lines, clients_end, client_end, is_delivery_to};
 ghost use Rattle.cq_print.specs.Bodies.{shown};
@@ -78,14 +78,11 @@ fn line_of(
     }
 }
 
-/// Puts one line, or nothing where it has no byte.
+/// Puts one line.
 fn put_line<W: Sink>(sink: &mut W, line: &[u8]) -> Result<(), PutError>
-    ensures ok { OnOk result (Appends (W.taken sink.old) (W.taken sink.new) line.now) }
+    ensures ok { OnOk result (Adds (W.pieces sink.old) (W.pieces sink.new) (line.now ∷ [])) }
     ensures cause { CausedOf PutError.Output (W.faults sink.old) (W.faults sink.new) result }
 {
-    if line.is_empty() {
-        return Ok(());
-    }
     match sink.put(line) {
         Ok(()) => Ok(()),
         Err(_) => Err(PutError::Output),
@@ -101,7 +98,7 @@ fn put_reply<W: Sink>(
     bodies: &BTreeMap<u128, &[u8]>,
     sink: &mut W,
 ) -> Result<(), PutError>
-    ensures ok { OnOk result (Appends (W.taken sink.old) (W.taken sink.new) (if is_left_out then [] else own_line (shown bodies.now) client event.now)) }
+    ensures ok { OnOk result (Adds (W.pieces sink.old) (W.pieces sink.new) (if is_left_out then [] else own_line (shown bodies.now) client event.now)) }
     ensures cause { CausedOf PutError.Output (W.faults sink.old) (W.faults sink.new) result }
 {
     if is_left_out || !answers(client, event) {
@@ -120,31 +117,13 @@ fn put_replies<W: Sink>(
     bodies: &BTreeMap<u128, &[u8]>,
     sink: &mut W,
 ) -> Result<(), PutError>
-    ensures ok { OnOk result (Appends (W.taken sink.old) (W.taken sink.new) (reply_lines (shown bodies.now) client left_out (reverse entries.now))) }
+    ensures ok { OnOk result (Adds (W.pieces sink.old) (W.pieces sink.new) (reply_lines (shown bodies.now) client left_out (reverse entries.now))) }
     ensures cause { CausedOf PutError.Output (W.faults sink.old) (W.faults sink.new) result }
 {
     for (place, entry) in entries.iter().enumerate() {
         put_reply(alloc, client, place == left_out, &entry.event, bodies, sink)?;
     }
     Ok(())
-}
-
-/// The line of an event that confirms a message of the client, and nothing for another.
-fn confirm_of(alloc: Global, client: u32, event: &Event) -> Result<Vec<u8>, AllocError>
-    ensures { IfOk result (λ line. line.items ≡ confirm_of client event.now) }
-{
-    let Event::Confirmed {
-        client: owner,
-        number,
-        ..
-    } = event
-    else {
-        return Ok(Vec::new(alloc));
-    };
-    if *owner != client {
-        return Ok(Vec::new(alloc));
-    }
-    confirmed_line(alloc, client, *number)
 }
 
 /// Puts the line of an event that confirms a message of the client, and nothing for another.
@@ -154,10 +133,21 @@ fn put_confirm<W: Sink>(
     event: &Event,
     sink: &mut W,
 ) -> Result<(), PutError>
-    ensures ok { OnOk result (Appends (W.taken sink.old) (W.taken sink.new) (confirm_of client event.now)) }
+    ensures ok { OnOk result (Adds (W.pieces sink.old) (W.pieces sink.new) (confirm_of client event.now)) }
     ensures cause { CausedOf PutError.Output (W.faults sink.old) (W.faults sink.new) result }
 {
-    let line = confirm_of(alloc, client, event)?;
+    let Event::Confirmed {
+        client: owner,
+        number,
+        ..
+    } = event
+    else {
+        return Ok(());
+    };
+    if *owner != client {
+        return Ok(());
+    }
+    let line = confirmed_line(alloc, client, *number)?;
     put_line(sink, &line)
 }
 
@@ -168,7 +158,7 @@ fn put_confirms<W: Sink>(
     entries: &[Entry],
     sink: &mut W,
 ) -> Result<(), PutError>
-    ensures ok { OnOk result (Appends (W.taken sink.old) (W.taken sink.new) (confirmed_lines (reverse entries.now) client)) }
+    ensures ok { OnOk result (Adds (W.pieces sink.old) (W.pieces sink.new) (confirmed_lines (reverse entries.now) client)) }
     ensures cause { CausedOf PutError.Output (W.faults sink.old) (W.faults sink.new) result }
 {
     for entry in entries {
@@ -219,7 +209,7 @@ fn put_client<W: Sink>(
     bodies: &BTreeMap<u128, &[u8]>,
     sink: &mut W,
 ) -> Result<(), PutError>
-    ensures ok { OnOk result (Appends (W.taken sink.old) (W.taken sink.new) (client_lines (shown bodies.now) (reverse entries.now) cut.now client)) }
+    ensures ok { OnOk result (Adds (W.pieces sink.old) (W.pieces sink.new) (client_lines (shown bodies.now) (reverse entries.now) cut.now client)) }
     ensures cause { CausedOf PutError.Output (W.faults sink.old) (W.faults sink.new) result }
 {
     let place = left_out(client, entries, cut);
@@ -265,7 +255,7 @@ fn put_clients<W: Sink>(
     bodies: &BTreeMap<u128, &[u8]>,
     sink: &mut W,
 ) -> Result<(), PutError>
-    ensures ok { OnOk result (Appends (W.taken sink.old) (W.taken sink.new) (clients_lines (shown bodies.now) (reverse entries.now) cut.now (clients_end (reverse entries.now)))) }
+    ensures ok { OnOk result (Adds (W.pieces sink.old) (W.pieces sink.new) (clients_lines (shown bodies.now) (reverse entries.now) cut.now (clients_end (reverse entries.now)))) }
     ensures cause { CausedOf PutError.Output (W.faults sink.old) (W.faults sink.new) result }
 {
     for client in 0..clients_end(entries) {
@@ -283,7 +273,7 @@ fn put_text<W: Sink>(
     bodies: &BTreeMap<u128, &[u8]>,
     sink: &mut W,
 ) -> Result<(), PutError>
-    ensures ok { OnOk result (Appends (W.taken sink.old) (W.taken sink.new) (session_line number ++ clients_lines (shown bodies.now) (reverse entries.now) cut.now (clients_end (reverse entries.now)))) }
+    ensures ok { OnOk result (Adds (W.pieces sink.old) (W.pieces sink.new) (session_line number ∷ clients_lines (shown bodies.now) (reverse entries.now) cut.now (clients_end (reverse entries.now)))) }
     ensures cause { CausedOf PutError.Output (W.faults sink.old) (W.faults sink.new) result }
 {
     let head = session_line(alloc, number)?;
@@ -300,7 +290,7 @@ pub fn put_session<W: Sink>(
     session: &Session,
     sink: &mut W,
 ) -> Result<(), PutError>
-    ensures ok { Legal session.now.journal.entries → OnOk result (Appends (W.taken sink.old) (W.taken sink.new) (text_of number session.now.journal.entries session.now.cut.items)) }
+    ensures ok { Legal session.now.journal.entries → OnOk result (Adds (W.pieces sink.old) (W.pieces sink.new) (text_of number session.now.journal.entries session.now.cut.items)) }
     ensures cause { CausedOf PutError.Output (W.faults sink.old) (W.faults sink.new) result }
 {
     let entries = session.journal.entries();

@@ -250,9 +250,13 @@ indexed-settled ss ws held gone rest f k h e =
 -- ---- what is read
 
 -- a list whose first element was read
-pub headed : (xs : List ℕ) (x : ℕ) → 0 < length xs → x ≡ get_or xs 0 x → xs ≡ x ∷ drop 1 xs
-headed [] x l e = absurd (omega arith)
-headed (y ∷ ys) x l e = ap (λ z. z ∷ ys) (sym e)
+pub headed : (xs : List ℕ) (x : ℕ) → slice_get xs 0 ≡ Some x → xs ≡ x ∷ drop 1 xs
+headed [] x e = cc
+headed (y ∷ ys) x e = let same : y ≡ x = cc in ap (λ z. z ∷ ys) same
+
+pub headless : (xs : List ℕ) → slice_get xs 0 ≡ None → length xs ≡ 0
+headless [] e = refl
+headless (y ∷ ys) e = cc
 
 pub first-get : (ss : List (Option Item)) (p : ℕ) (rest : List ℕ) → IsFirstPlace 0 ss p rest → slice_get (waiting_items (alive ss)) 0 ≡ slot_at ss p
 first-get ss p rest f = ap (λ (is : List Item). slice_get is 0) f.first ∙ sym f.stands

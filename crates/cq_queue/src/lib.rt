@@ -2,9 +2,11 @@
 #![tactic(auto)]
 
 mod item;
+mod line;
 mod outs;
 mod queue;
 mod slots;
+mod tree;
 
 pub use item::{First, Holder, Item, Passed};
 pub use queue::QueueCore;

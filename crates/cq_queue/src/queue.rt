@@ -1,16 +1,15 @@
 // A queue in memory.
 ghost use Rattle.cq_queue.specs.Items.{ack, committed, first_of, give_back, hand_out, is_out_to, kind_of, new_item, waiting_items};
 ghost use Rattle.cq_queue.specs.Slots.{passes};
-ghost use Rattle.cq_queue.specs.Queue.{GaveOne, IsPlace, IsRising};
-ghost use Rattle.std.specs.List.{insert};
+ghost use Rattle.cq_queue.specs.Queue.{GaveOne};
 ghost use Rattle.std.specs.Option.{option_copied};
-ghost use Rattle.std.specs.VecDeque.{deque_capacity};
 ghost use Rattle.std.specs.Prelude.{length, map, slice_get, ◌≡◌, ◌<◌, ◌≤◌, ◌+◌, ◌++◌, ◌∷◌, [], false, if◌then◌else◌, vec_capacity, OnOk, OnErr};
 
 mod deciding;
 mod packing;
 mod settling;
 
+use crate::line::Line;
 use crate::outs::Outs;
 use crate::slots::set_holder;
 use crate::{First, Holder, Item};
@@ -26,7 +25,7 @@ pub struct QueueCore {
     /// A place for each message, in line order. Places of messages that have left are empty.
     slots: VecDeque<Option<Item>>,
     /// The places of what waits, rising.
-    waiting: VecDeque<usize>,
+    waiting: Line,
     outs: Outs,
     /// The places of what is committed and acknowledged.
     gone: Vec<usize>,
@@ -48,31 +47,7 @@ impl Model for QueueCore {
     ghost view = { λ q. record { items = alive q.slots.items; reserved = q.reserved } };
 
     ghost invariant = { λ q. IsIndexed q.slots.items q.waiting.items q.outs.held q.gone.items q.first
-        × HasRoom (length q.slots.items) (length q.waiting.items) (length q.outs.held) (length q.gone.items) q.reserved (deque_capacity q.slots) (deque_capacity q.waiting) q.outs.room (vec_capacity q.gone) };
-}
-
-/// Where a place belongs among those that wait.
-fn place_among(waiting: &VecDeque<usize>, at: usize) -> usize
-    requires { IsRising waiting.now.items }
-    ensures { IsPlace waiting.now.items at result }
-{
-    match waiting.binary_search(&at) {
-        Ok(place) => place,
-        Err(place) => place,
-    }
-}
-
-/// Puts a place among those that wait.
-fn put_at(waiting: &mut VecDeque<usize>, place: usize, at: usize)
-    requires within { place ≤ length waiting.old.items }
-    requires room { length waiting.old.items < deque_capacity waiting.old }
-    ensures items { waiting.new.items ≡ insert waiting.old.items place at }
-    ensures capacity { deque_capacity waiting.old ≤ deque_capacity waiting.new }
-{
-    match waiting.insert(place, at) {
-        Ok(()) => {}
-        Err(_) => {}
-    }
+        × HasRoom (length q.slots.items) (length q.waiting.items) (length q.outs.held) (length q.gone.items) q.reserved (deque_capacity q.slots) q.waiting.room q.outs.room (vec_capacity q.gone) };
 }
 
 /// How a message with this body is stored: small where the body was given.
@@ -105,7 +80,7 @@ impl QueueCore {
     {
         QueueCore {
             slots: VecDeque::new(alloc),
-            waiting: VecDeque::new(alloc),
+            waiting: Line::new(alloc),
             outs: Outs::new(alloc),
             gone: Vec::new(alloc),
             first: 0,
@@ -144,7 +119,7 @@ impl QueueCore {
             committed: false,
             holder: Holder::Waiting,
         }));
-        self.waiting.push_back_reserved(at);
+        self.waiting.push(at);
         self.reserved = 0;
     }
 
@@ -152,8 +127,8 @@ impl QueueCore {
     pub fn first_item(&self) -> Option<&Item>
         ensures { option_copied result ≡ slice_get (waiting_items self.now.items) 0 }
     {
-        match self.waiting.front() {
-            Some(at) => self.slots[*at].as_ref(),
+        match self.waiting.first() {
+            Some(at) => self.slots[at].as_ref(),
             None => None,
         }
     }
@@ -192,7 +167,7 @@ impl QueueCore {
         requires fresh { is_out_to client delivery self.old.items ≡ false }
         ensures { self.new ≡ record self.old { items = hand_out client delivery self.old.items } }
     {
-        match self.waiting.pop_front() {
+        match self.waiting.pop() {
             Some(at) => {
                 set_holder(&mut self.slots, at, Holder::Out { client, delivery });
                 self.outs.put(client, delivery, at);
@@ -229,8 +204,7 @@ impl QueueCore {
             Some(held) => {
                 let at = held.at;
                 set_holder(&mut self.slots, at, Holder::Waiting);
-                let place = place_among(&self.waiting, at);
-                put_at(&mut self.waiting, place, at);
+                self.waiting.put_back(at);
                 true
             }
             None => false,

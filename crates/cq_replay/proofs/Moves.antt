@@ -1,6 +1,7 @@
 -- How the entries and the client's requests move on.
 use Rattle.std.proofs.Common.{◌≡◌, ℕ, ◌+◌, ◌≤◌, List, [], ◌∷◌, ◌++◌, length, Result, Ok, Err, OnOk, refl, sym, ap, ◌∙◌, arith, append_assoc, length-append, Bool, true, false, cond, Option}
 use Rattle.std.specs.Prelude.{◌==◌, map}
+use Rattle.std.specs.List.{AllByRecursion}
 use Rattle.std.proofs.lemmas.List.{length-map}
 use Rattle.cq_journal.specs.declared.event.Event.{Event}
 use Rattle.cq_journal.specs.declared.event.Event.TheVariants as event
@@ -21,44 +22,58 @@ use Rattle.cq_journal.specs.declared.session.After.{After}
 use Rattle.cq_replay.specs.Running.{GoesOn, MovesOn, IsFresh, demand}
 
 -- nothing has moved
-pub stays : (old new : List Entry) (w w' : Handed) (rest rest' : List Request) → new ≡ old → w'.requests ++ rest' ≡ w.requests ++ rest → MovesOn old new w w' rest rest'
-stays old new w w' rest rest' same left = record {
+pub stays : (moment : ℕ) (old new : List Entry) (w w' : Handed) (rest rest' : List Request) → new ≡ old → w'.requests ++ rest' ≡ w.requests ++ rest → MovesOn moment old new w w' rest rest'
+stays moment old new w w' rest rest' same left = record {
   added = [];
   is = same;
+  since = tt;
   same = append_assoc (asks new 0) w'.requests rest' ∙ ap (λ l. asks new 0 ++ l) left ∙ ap (λ l. asks l 0 ++ (w.requests ++ rest)) same ∙ sym (append_assoc (asks old 0) w.requests rest);
 }
 
 -- an entry that answers the oldest request
-pub asked_one : (old new : List Entry) (before after : List Request) (m : Moves old new before after) → asks new 0 ≡ asks old 0 ++ m.request ∷ []
-asked_one old new before after m = ap (λ l. asks l 0) m.answers.added ∙ ap (λ l. asks old 0 ++ l) m.answers.asked
+pub asked_one : (moment : ℕ) (old new : List Entry) (before after : List Request) (m : Moves moment old new before after) → asks new 0 ≡ asks old 0 ++ m.request ∷ []
+asked_one moment old new before after m = ap (λ l. asks l 0) m.answers.added ∙ ap (λ l. asks old 0 ++ l) m.answers.asked
 
-pub turned : (result : Result Turn NodeError) (old new : List Entry) (w w' : Handed) (rest rest' : List Request) → Turned result old new w.requests w'.requests → rest' ≡ rest → MovesOn old new w w' rest rest'
-turned (Ok Moved) old new w w' rest rest' m same = record {
+pub turned : (result : Result Turn NodeError) (moment : ℕ) (old new : List Entry) (w w' : Handed) (rest rest' : List Request) → Turned result moment old new w.requests w'.requests → rest' ≡ rest → MovesOn moment old new w w' rest rest'
+turned (Ok Moved) moment old new w w' rest rest' m same = record {
   added = m.answers.entry ∷ [];
   is = m.answers.added;
+  since = (omega (arith, m.since, m.answers.stamped), tt);
   same =
-      ap (λ l. asks new 0 ++ w'.requests ++ l) same ∙ ap (λ l. l ++ w'.requests ++ rest) (asked_one old new w.requests w'.requests m)
+      ap (λ l. asks new 0 ++ w'.requests ++ l) same ∙ ap (λ l. l ++ w'.requests ++ rest) (asked_one moment old new w.requests w'.requests m)
       ∙ ap (λ l. l ++ rest) (append_assoc (asks old 0) (m.request ∷ []) w'.requests ∙ ap (λ l. asks old 0 ++ l) (sym m.oldest));
 }
-turned (Ok Done) old new w w' rest rest' (is, before, after) same = stays old new w w' rest rest' is (ap (λ l. l ++ rest') (after ∙ sym before) ∙ ap (λ l. w.requests ++ l) same)
-turned (Err e) old new w w' rest rest' (is, waits) same = stays old new w w' rest rest' is (ap (λ l. l ++ rest') waits ∙ ap (λ l. w.requests ++ l) same)
+turned (Ok Done) moment old new w w' rest rest' (is, before, after) same = stays moment old new w w' rest rest' is (ap (λ l. l ++ rest') (after ∙ sym before) ∙ ap (λ l. w.requests ++ l) same)
+turned (Err e) moment old new w w' rest rest' (is, waits) same = stays moment old new w w' rest rest' is (ap (λ l. l ++ rest') waits ∙ ap (λ l. w.requests ++ l) same)
 
-pub wrote : (result : Result Step NodeError) (old new : List Entry) (w w' : Handed) (rest rest' : List Request) → Wrote result old new → w' ≡ w → rest' ≡ rest → MovesOn old new w w' rest rest'
-wrote (Ok Did) old new w w' rest rest' (some, none, quiet) same also = record {
-  added = quiet.confirms_alone.added;
-  is = quiet.confirms_alone.is;
+pub wrote : (result : Result Step NodeError) (moment : ℕ) (old new : List Entry) (w w' : Handed) (rest rest' : List Request) → Wrote result moment old new → w' ≡ w → rest' ≡ rest → MovesOn moment old new w w' rest rest'
+wrote (Ok Did) moment old new w w' rest rest' (some, none, quiet, adds) same also = record {
+  added = adds.added;
+  is = adds.is;
+  since = adds.since;
   same = ap (λ l. l ++ w'.requests ++ rest') quiet.asked ∙ ap (λ (v : Handed). asks old 0 ++ v.requests ++ rest') same ∙ ap (λ l. asks old 0 ++ w.requests ++ l) also;
 }
-wrote (Ok Idle) old new w w' rest rest' (is, none) same also = stays old new w w' rest rest' is (ap (λ (v : Handed). v.requests ++ rest') same ∙ ap (λ l. w.requests ++ l) also)
-wrote (Err e) old new w w' rest rest' is same also = stays old new w w' rest rest' is (ap (λ (v : Handed). v.requests ++ rest') same ∙ ap (λ l. w.requests ++ l) also)
+wrote (Ok Idle) moment old new w w' rest rest' (is, none) same also = stays moment old new w w' rest rest' is (ap (λ (v : Handed). v.requests ++ rest') same ∙ ap (λ l. w.requests ++ l) also)
+wrote (Err e) moment old new w w' rest rest' is same also = stays moment old new w w' rest rest' is (ap (λ (v : Handed). v.requests ++ rest') same ∙ ap (λ l. w.requests ++ l) also)
+
+-- a fact of entries that were added one after another
+pub each_since : (m m' : ℕ) (xs ys : List Entry) → m ≤ m' → AllByRecursion (λ e. m' ≤ e.stamp) xs → AllByRecursion (λ e. m ≤ e.stamp) ys → AllByRecursion (λ e. m ≤ e.stamp) (xs ++ ys)
+each_since m m' [] ys le second first = first
+each_since m m' (x ∷ xs) ys le second first = (omega (arith, le, second.0), each_since m m' xs ys le second.1 first)
 
 -- one after another
-pub then : (a b c : List Entry) (u v w : Handed) (p q r : List Request) → MovesOn a b u v p q → MovesOn b c v w q r → MovesOn a c u w p r
-then a b c u v w p q r first second = record {
+pub then : (m m' : ℕ) → m ≤ m' → (a b c : List Entry) (u v w : Handed) (p q r : List Request) → MovesOn m a b u v p q → MovesOn m' b c v w q r → MovesOn m a c u w p r
+then m m' le a b c u v w p q r first second = record {
   added = second.added ++ first.added;
+  since = each_since m m' second.added first.added le second.since first.since;
   is = second.is ∙ ap (λ l. second.added ++ l) first.is ∙ sym (append_assoc second.added first.added a);
   same = second.same ∙ first.same;
 }
+
+-- one after another, with a request handed in between
+pub then_handed : (m m' m'' : ℕ) (a b c d : List Entry) (u v w x : Handed) (p q r s : List Request) → m ≤ m' → m'' ≡ m' → MovesOn m a b u v p q → c ≡ b → w.requests ++ r ≡ v.requests ++ q → MovesOn m'' c d w x r s → MovesOn m a d u x p s
+then_handed m m' m'' a b c d u v w x p q r s le at first same moved second =
+    then m m' le a b d u v x p q s first (then m' m'' (omega (arith, at)) b c d v w x q r s (stays m' b c v w q r same moved) second)
 
 -- how many requests there are
 pub length-demand : (journal : List Entry) (w : Handed) (rest : List Request) → length (demand journal w rest) ≡ length (asks journal 0) + length w.requests + length rest

@@ -8,7 +8,7 @@ use Rattle.cq_node.specs.Waiting.{Handed}
 use Rattle.cq_replay.specs.Running.{MovesOn, IsFresh}
 use Rattle.cq_replay.proofs.Moves.{demand_fresh}
 
-module _ (m : ℕ) (old new : List Entry) (w w' : Handed) (before : List After) (rest rest' : List Request) (fresh : IsFresh m old w before) (moves : MovesOn old new w w' rest rest') where
+module _ (m : ℕ) (old new : List Entry) (w w' : Handed) (before : List After) (rest rest' : List Request) (fresh : IsFresh m old w before) (moves : MovesOn m old new w w' rest rest') where
   pub asked_first : rest ≡ asks new 0 ++ (w'.requests ++ rest')
   asked_first = sym (moves.same ∙ demand_fresh m old w before rest fresh) ∙ append_assoc (asks new 0) w'.requests rest'
 

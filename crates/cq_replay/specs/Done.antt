@@ -1,5 +1,6 @@
 -- The words of a schedule that were done, and what each did.
 use Rattle.std.specs.Prelude.{◌≡◌, ◌⊎◌, ℕ, ◌+◌, ◌-◌, ◌≤◌, ◌<◌, ◌&&◌, nat_lt, if◌then◌else◌, List, [], ◌∷◌, length, take, drop, reverse}
+use Rattle.std.specs.List.{AllByRecursion}
 use Rattle.cq_journal.specs.declared.event.Entry.{Entry}
 use Rattle.cq_journal.specs.declared.session.After.{After}
 use Rattle.cq_journal.specs.Asks.{asks}
@@ -11,6 +12,10 @@ use Rattle.cq_script.specs.declared.script.StepWord.TheVariants.{Client, Turn, W
 -- the first so many entries of a journal, whose newest stands first
 abbrev pub first_entries : ℕ → List Entry → List Entry
 first_entries n journal = drop (length journal - n) journal
+
+-- the entries after those
+abbrev pub later_entries : ℕ → List Entry → List Entry
+later_entries n journal = take (length journal - n) journal
 
 -- how many requests the first so many entries answer
 abbrev pub answered : ℕ → List Entry → ℕ
@@ -46,11 +51,13 @@ Did journal (Client c) s a = a.entries ≡ s.entries
 Did journal (Turn c) s a = (a.entries ≡ s.entries + one_waits journal s) × (answered a.entries journal ≡ answered s.entries journal + one_waits journal s)
 Did journal Write s a = AddsConfirms (first_entries s.entries journal) (first_entries a.entries journal) × (AreConfirmed (first_entries s.entries journal) ⊎ (s.moment < a.moment))
 
--- this word was done, with this outcome
+-- This word was done, with this outcome. Its moment lies between the stamps of the entries up to then and those of the others.
 pub record IsDone (journal : List Entry) (word : StepWord) (s : Standing) (a : After) : Type 0 where
   pub later : s.entries ≤ a.entries
   pub within : a.entries ≤ length journal
   pub moment_later : s.moment ≤ a.moment
+  pub stamped : newest (first_entries a.entries journal) ≤ a.moment
+  pub since : AllByRecursion (λ e. a.moment ≤ e.stamp) (later_entries a.entries journal)
   pub did : Did journal word s a
 
 -- these words were done, with these outcomes, the last one first

@@ -1,7 +1,7 @@
 -- What the top call hands back.
 use Rattle.std.specs.Prelude.{◌≡◌, ℕ, List, [], ◌∷◌, ◌++◌, codes, Ok, None, Some, IfSome}
 use Rattle.std.specs.declared.option.Option.{Option}
-use Rattle.std.specs.Io.KnownBytes.{Appends}
+use Rattle.cq_io.specs.Streams.{Adds}
 use Rattle.cq_io.specs.declared.status.Status.{Status}
 use Rattle.cq_io.specs.declared.status.Status.TheVariants as status
 use Rattle.cq_journal.specs.declared.session.Session.{Session}
@@ -101,7 +101,7 @@ StatusOf (Failed e) s = s ≡ status.DiskFault
 StatusOf Output s = s ≡ status.OutputFault
 StatusOf Memory s = s ≡ status.Memory
 
--- the text of the first session and then `ok` were taken
-abbrev pub TextAndOk : Option (List ℕ) → Option (List ℕ) → List Session → Type 0
+-- the lines of the first session's text and then `ok` were taken, each in one put
+abbrev pub TextAndOk : Option (List (List ℕ)) → Option (List (List ℕ)) → List Session → Type 0
 TextAndOk old new [] = ⊥
-TextAndOk old new (s ∷ sessions) = Appends old new (text_of 0 s.journal.entries s.cut.items ++ (codes "ok" ++ 10 ∷ []))
+TextAndOk old new (s ∷ sessions) = Adds old new (text_of 0 s.journal.entries s.cut.items ++ (codes "ok" ++ 10 ∷ []) ∷ [])

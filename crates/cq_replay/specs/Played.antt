@@ -1,15 +1,16 @@
 -- What serving a script hands back.
 use Rattle.std.specs.Prelude.{◌≡◌, ℕ, ◌≤◌, true, List, [], ◌∷◌, ◌++◌, length, Option}
 use Rattle.std.specs.List.{list_all}
-use Rattle.std.specs.Io.KnownBytes.{Appends}
 use Rattle.cq_disk.specs.Rose.{Rose}
-use Rattle.cq_disk.specs.Call.{BeforeFuse}
+use Rattle.cq_disk.specs.Call.{BeforeFuse, Image}
 use Rattle.cq_inbox.specs.declared.request.Request.{Request}
 use Rattle.cq_inbox.specs.Requests.{publishes}
+use Rattle.cq_io.specs.Streams.{Adds}
 use Rattle.cq_journal.specs.declared.session.Session.{Session}
 use Rattle.cq_disk.specs.declared.name.Name.{Name}
 use Rattle.cq_disk.specs.File.{File}
 use Rattle.cq_held.specs.Held.{as_read, Held}
+use Rattle.cq_held.specs.Steady.{Steady}
 use Rattle.cq_journal.specs.Asks.{asks}
 use Rattle.cq_journal.specs.Confirms.{AreConfirmed}
 use Rattle.cq_journal.specs.History.{line}
@@ -28,10 +29,10 @@ abbrev pub AreLegal : List Session → Type 0
 AreLegal [] = Unit {0}
 AreLegal (s ∷ sessions) = Legal s.journal.entries × AreLegal sessions
 
--- there is a first session, and its text was taken
-abbrev pub FirstText : Option (List ℕ) → Option (List ℕ) → List Session → Type 0
+-- there is a first session, and the lines of its text were taken, each in one put
+abbrev pub FirstText : Option (List (List ℕ)) → Option (List (List ℕ)) → List Session → Type 0
 FirstText old new [] = ⊥
-FirstText old new (s ∷ sessions) = Appends old new (text_of 0 s.journal.entries s.cut.items)
+FirstText old new (s ∷ sessions) = Adds old new (text_of 0 s.journal.entries s.cut.items)
 
 -- A session serves these requests and words: its journal asks a first part of the requests, and of the words a first part was done.
 pub record Serves (requests : List Request) (words : List StepWord) (s : Session) : Type 0 where
@@ -63,6 +64,11 @@ FirstServesAll (requests ∷ streams) words (s ∷ sessions) = ServesAll request
 abbrev pub FirstHeld : (Name → Option File) → List Session → Type 0
 FirstHeld files [] = ⊥
 FirstHeld files (s ∷ sessions) = Held (as_read files) (line s.journal.entries)
+
+-- The journal of the session is steady on the disk that is handed back: every image that a crash may have left between two entries, or between the last one and now, agrees with the journal up to then.
+abbrev pub AreSteady : (ℕ → ℕ → Image → Type 0) → ℕ → List Session → Type 0
+AreSteady left moment [] = Unit {0}
+AreSteady left moment (s ∷ sessions) = Steady left moment s.journal.entries
 
 -- one client's requests, publishes to queue 0 and gets of it, of which few are publishes
 abbrev pub IsRight : List (List Request) → Type 0

@@ -1,5 +1,6 @@
 -- A run of steps that met no error.
 use Rattle.std.specs.Prelude.{◌≡◌, ℕ, ◌+◌, ◌≤◌, Bool, false, ◌&&◌, nat_lt, if◌then◌else◌, List, [], ◌∷◌, ◌++◌, length, reverse, take, Option}
+use Rattle.std.specs.List.{AllByRecursion}
 use Rattle.cq_inbox.specs.declared.request.Request.{Request}
 use Rattle.cq_journal.specs.declared.event.Entry.{Entry}
 use Rattle.cq_journal.specs.declared.event.Event.TheVariants.{Opened}
@@ -22,10 +23,11 @@ pub record GoesOn (halted : Bool) (moment moment' faults faults' struck struck' 
 abbrev pub demand : List Entry → Handed → List Request → List Request
 demand journal waiting rest = asks journal 0 ++ waiting.requests ++ rest
 
--- entries were added, and the client's requests are the same
-pub record MovesOn (old new : List Entry) (waiting waiting' : Handed) (rest rest' : List Request) : Type 0 where
+-- entries were added, none of them stamped before this moment, and the client's requests are the same
+pub record MovesOn (moment : ℕ) (old new : List Entry) (waiting waiting' : Handed) (rest rest' : List Request) : Type 0 where
   pub added : List Entry
   pub is : new ≡ added ++ old
+  pub since : AllByRecursion (λ e. moment ≤ e.stamp) added
   pub same : demand new waiting' rest' ≡ demand old waiting rest
 
 -- where a session stands now

@@ -37,7 +37,7 @@ impl<D: Disk> Player<D> {
     pub fn serve(&mut self, words: &[StepWord]) -> Result<(), NodeError>
         requires open { self.old.node.store.halted ≡ false }
         requires fresh { IsFresh (D.moment self.old.node.store.disk) self.old.node.core.entries self.old.node.waiting self.old.after.items }
-        ensures moves { MovesOn self.old.node.core.entries self.new.node.core.entries self.old.node.waiting self.new.node.waiting self.old.rest.items self.new.rest.items }
+        ensures moves { MovesOn (D.moment self.old.node.store.disk) self.old.node.core.entries self.new.node.core.entries self.old.node.waiting self.new.node.waiting self.old.rest.items self.new.rest.items }
         ensures finished { OnOk result ((self.new.node.waiting.requests ≡ []) × (self.new.rest.items ≡ [])) }
         ensures confirmed { OnOk result (AreConfirmed self.new.node.core.entries) }
         ensures held { OnOk result (D.tells → Held (as_read (D.files self.new.node.store.disk)) (line self.new.node.core.entries)) }
@@ -65,7 +65,7 @@ impl<D: Disk> Player<D> {
         requires open { self.old.node.store.halted ≡ false }
         requires none_kept { self.old.node.waiting.kept ≡ false }
         requires room { vec_len self.old.after < vec_capacity self.old.after }
-        ensures moves { MovesOn self.old.node.core.entries self.new.node.core.entries self.old.node.waiting self.new.node.waiting self.old.rest.items self.new.rest.items }
+        ensures moves { MovesOn (D.moment self.old.node.store.disk) self.old.node.core.entries self.new.node.core.entries self.old.node.waiting self.new.node.waiting self.old.rest.items self.new.rest.items }
         ensures none_kept { OnOk result (self.new.node.waiting.kept ≡ false) }
         ensures capacity { vec_capacity self.new.after ≡ vec_capacity self.old.after }
         ensures after { OnErr result (self.new.after.items ≡ self.old.after.items) }
@@ -91,7 +91,7 @@ impl<D: Disk> Player<D> {
     fn do_word(&mut self, word: StepWord) -> Result<(), NodeError>
         requires open { self.old.node.store.halted ≡ false }
         requires none_kept { self.old.node.waiting.kept ≡ false }
-        ensures moves { MovesOn self.old.node.core.entries self.new.node.core.entries self.old.node.waiting self.new.node.waiting self.old.rest.items self.new.rest.items }
+        ensures moves { MovesOn (D.moment self.old.node.store.disk) self.old.node.core.entries self.new.node.core.entries self.old.node.waiting self.new.node.waiting self.old.rest.items self.new.rest.items }
         ensures none_kept { OnOk result (self.new.node.waiting.kept ≡ false) }
         ensures after { self.new.after ≡ self.old.after }
         ensures did { OnOk result (WordDid (length (demand self.old.node.core.entries self.old.node.waiting self.old.rest.items)) word self.old.node.core.entries self.new.node.core.entries self.old.node.waiting self.new.node.waiting (D.moment self.old.node.store.disk) (D.moment self.new.node.store.disk)) }
@@ -140,7 +140,7 @@ impl<D: Disk> Player<D> {
     fn turn(&mut self) -> Result<Turn, NodeError>
         requires open { self.old.node.store.halted ≡ false }
         requires none_kept { self.old.node.waiting.kept ≡ false }
-        ensures turned { Turned result self.old.node.core.entries self.new.node.core.entries self.old.node.waiting.requests self.new.node.waiting.requests }
+        ensures turned { Turned result (D.moment self.old.node.store.disk) self.old.node.core.entries self.new.node.core.entries self.old.node.waiting.requests self.new.node.waiting.requests }
         ensures rest { self.new.rest ≡ self.old.rest }
         ensures none_kept { OnOk result (self.new.node.waiting.kept ≡ false) }
         ensures after { self.new.after ≡ self.old.after }
@@ -158,7 +158,7 @@ impl<D: Disk> Player<D> {
     fn write(&mut self) -> Result<Step, NodeError>
         requires open { self.old.node.store.halted ≡ false }
         requires none_kept { self.old.node.waiting.kept ≡ false }
-        ensures wrote { Wrote result self.old.node.core.entries self.new.node.core.entries }
+        ensures wrote { Wrote result (D.moment self.old.node.store.disk) self.old.node.core.entries self.new.node.core.entries }
         ensures same { (self.new.node.waiting ≡ self.old.node.waiting) × (self.new.rest ≡ self.old.rest) }
         ensures idle { IsIdle result → AreConfirmed self.new.node.core.entries }
         ensures held { IsIdle result → D.tells → Held (as_read (D.files self.new.node.store.disk)) (line self.new.node.core.entries) }
@@ -179,7 +179,7 @@ impl<D: Disk> Player<D> {
         requires open { self.old.node.store.halted ≡ false }
         requires none_kept { self.old.node.waiting.kept ≡ false }
         requires total { length (demand self.old.node.core.entries self.old.node.waiting self.old.rest.items) ≡ total }
-        ensures moves { MovesOn self.old.node.core.entries self.new.node.core.entries self.old.node.waiting self.new.node.waiting self.old.rest.items self.new.rest.items }
+        ensures moves { MovesOn (D.moment self.old.node.store.disk) self.old.node.core.entries self.new.node.core.entries self.old.node.waiting self.new.node.waiting self.old.rest.items self.new.rest.items }
         ensures after { self.new.after ≡ self.old.after }
         ensures finished { OnOk result ((self.new.node.waiting.requests ≡ []) × (self.new.rest.items ≡ [])) }
         ensures confirmed { OnOk result (AreConfirmed self.new.node.core.entries) }
@@ -203,7 +203,7 @@ impl<D: Disk> Player<D> {
         requires open { self.old.node.store.halted ≡ false }
         requires none_kept { self.old.node.waiting.kept ≡ false }
         requires left { 0 < length self.old.node.waiting.requests + length self.old.rest.items }
-        ensures moves { MovesOn self.old.node.core.entries self.new.node.core.entries self.old.node.waiting self.new.node.waiting self.old.rest.items self.new.rest.items }
+        ensures moves { MovesOn (D.moment self.old.node.store.disk) self.old.node.core.entries self.new.node.core.entries self.old.node.waiting self.new.node.waiting self.old.rest.items self.new.rest.items }
         ensures none_kept { OnOk result (self.new.node.waiting.kept ≡ false) }
         ensures after { self.new.after ≡ self.old.after }
         ensures fewer { OnOk result (length self.old.node.waiting.requests + length self.old.rest.items ≡ length self.new.node.waiting.requests + length self.new.rest.items + 1) }
@@ -224,7 +224,7 @@ impl<D: Disk> Player<D> {
         requires open { self.old.node.store.halted ≡ false }
         requires none_kept { self.old.node.waiting.kept ≡ false }
         requires left { 0 < length self.old.node.waiting.requests + length self.old.rest.items }
-        ensures moves { MovesOn self.old.node.core.entries self.new.node.core.entries self.old.node.waiting self.new.node.waiting self.old.rest.items self.new.rest.items }
+        ensures moves { MovesOn (D.moment self.old.node.store.disk) self.old.node.core.entries self.new.node.core.entries self.old.node.waiting self.new.node.waiting self.old.rest.items self.new.rest.items }
         ensures none_kept { OnOk result (self.new.node.waiting.kept ≡ false) }
         ensures after { self.new.after ≡ self.old.after }
         ensures fewer { OnOk result (length self.old.node.waiting.requests + length self.old.rest.items ≡ length self.new.node.waiting.requests + length self.new.rest.items + 1) }
@@ -249,7 +249,7 @@ impl<D: Disk> Player<D> {
     fn write_all(&mut self) -> Result<(), NodeError>
         requires open { self.old.node.store.halted ≡ false }
         requires none_kept { self.old.node.waiting.kept ≡ false }
-        ensures moves { MovesOn self.old.node.core.entries self.new.node.core.entries self.old.node.waiting self.new.node.waiting self.old.rest.items self.new.rest.items }
+        ensures moves { MovesOn (D.moment self.old.node.store.disk) self.old.node.core.entries self.new.node.core.entries self.old.node.waiting self.new.node.waiting self.old.rest.items self.new.rest.items }
         ensures same { (self.new.node.waiting ≡ self.old.node.waiting) × (self.new.rest ≡ self.old.rest) }
         ensures confirmed { OnOk result (AreConfirmed self.new.node.core.entries) }
         ensures held { OnOk result (D.tells → Held (as_read (D.files self.new.node.store.disk)) (line self.new.node.core.entries)) }

@@ -1,19 +1,20 @@
 // A script that is served in one session.
 ghost use Rattle.std.specs.Prelude.{◌≡◌, ◌≢◌, ◌≤◌, ◌++◌, ◌∷◌, [], ℕ, None, IfOk, IfErr, OnOk, IsErrOf, length, true, false};
 ghost use Rattle.std.specs.List.{list_all};
-ghost use Rattle.std.specs.Io.KnownBytes.{Appends};
 ghost use Rattle.cq_disk.specs.declared.name.Name.{Name};
 ghost use Rattle.cq_disk.specs.Rose.{Rose};
 ghost use Rattle.cq_disk.specs.Call.{CausedOf, StruckByOf, KeepsPlan};
 ghost use Rattle.cq_inbox.specs.Requests.{publishes};
+ghost use Rattle.cq_io.specs.Streams.{Adds};
 ghost use Rattle.cq_journal.specs.Legal.{Legal};
 ghost use Rattle.cq_node.specs.declared.outcome.NodeError.TheVariants.{Fault as node_fault};
 ghost use Rattle.cq_node.specs.Waiting.{is_servable};
 ghost use Rattle.cq_print.specs.Text.{text_of};
 ghost use Rattle.cq_script.specs.Scripts.{KeepsLimits};
 ghost use Rattle.cq_held.specs.Held.{as_read, Held};
+ghost use Rattle.cq_held.specs.Steady.{Steady};
 ghost use Rattle.cq_journal.specs.History.{line};
-ghost use Rattle.cq_replay.specs.Played.{AreLegal, FirstText, IsRight, Ended, IfFailed, Serves, ServesAll, AreServing, FirstServesAll, FirstHeld};
+ghost use Rattle.cq_replay.specs.Played.{AreLegal, FirstText, IsRight, Ended, IfFailed, Serves, ServesAll, AreServing, FirstServesAll, FirstHeld, AreSteady};
 ghost use Rattle.cq_replay.specs.Running.{IsFresh};
 
 use crate::player::Player;
@@ -55,12 +56,14 @@ pub fn play<C: Disk, W: Sink>(alloc: Global, script: Script, scratch: C, sink: &
     requires no_files { C.tells → (n : Name) → C.files scratch n ≡ None }
     // Whatever the ending, what the session did was allowed.
     ensures legal { AreLegal result.sessions.items }
-    ensures text { result.ending ≡ Ending.Served → FirstText (W.taken sink.old) (W.taken sink.new) result.sessions.items }
+    ensures text { result.ending ≡ Ending.Served → FirstText (W.pieces sink.old) (W.pieces sink.new) result.sessions.items }
     // The requests are answered in their order and the words done in theirs: all of them where all was served. Then each
     // publish is confirmed, and the files hold exactly the messages that were published.
     ensures serves { AreServing script.streams script.steps result.sessions.items }
     ensures served { result.ending ≡ Ending.Served → FirstServesAll script.streams script.steps result.sessions.items }
     ensures held { result.ending ≡ Ending.Served → C.tells → FirstHeld (C.files result.scratch) result.sessions.items }
+    // A crash at any moment has left, and leaves now, what agrees with the journal, whatever the ending.
+    ensures steady { C.tells → AreSteady (C.left result.scratch) (C.moment result.scratch) result.sessions.items }
     // A fault is answered only where one came.
     ensures later { C.faults scratch ≤ C.faults result.scratch }
     ensures failed { Ended result.ending (C.faults scratch) (C.faults result.scratch) (C.fuse scratch) (C.moment result.scratch) (C.struck scratch) (C.struck result.scratch) }
@@ -153,8 +156,9 @@ fn serve<C: Disk, W: Sink>(
     ensures serves { Serves player.rest.items words.now result.1 }
     ensures all { result.0 ≡ Ending.Served → ServesAll player.rest.items words.now result.1 }
     ensures held { result.0 ≡ Ending.Served → C.tells → Held (as_read (C.files result.2)) (line result.1.journal.entries) }
-    ensures text { result.0 ≡ Ending.Served → Appends (W.taken sink.old) (W.taken sink.new) (text_of 0 result.1.journal.entries []) }
+    ensures text { result.0 ≡ Ending.Served → Adds (W.pieces sink.old) (W.pieces sink.new) (text_of 0 result.1.journal.entries []) }
     ensures cut { result.1.cut.items ≡ [] }
+    ensures steady { C.tells → Steady (C.left result.2) (C.moment result.2) result.1.journal.entries }
     ensures later { C.faults player.node.store.disk ≤ C.faults result.2 }
     ensures failed { Ended result.0 (C.faults player.node.store.disk) (C.faults result.2) (C.fuse player.node.store.disk) (C.moment result.2) (C.struck player.node.store.disk) (C.struck result.2) }
     ensures output { result.0 ≡ Ending.Output → Rose (W.faults sink.old) (W.faults sink.new) }
@@ -185,7 +189,7 @@ fn put_text<W: Sink>(
 ) -> Ending
     requires { Legal session.now.journal.entries }
     ensures served { result ≡ Ending.Served → served ≡ Ok tt }
-    ensures text { result ≡ Ending.Served → Appends (W.taken sink.old) (W.taken sink.new) (text_of 0 session.now.journal.entries session.now.cut.items) }
+    ensures text { result ≡ Ending.Served → Adds (W.pieces sink.old) (W.pieces sink.new) (text_of 0 session.now.journal.entries session.now.cut.items) }
     ensures failed { IfFailed result (λ error. (served ≡ Err error) × (error ≢ NodeError.Memory)) }
     ensures output { result ≡ Ending.Output → Rose (W.faults sink.old) (W.faults sink.new) }
     ensures sink_later { W.faults sink.old ≤ W.faults sink.new }

@@ -1,12 +1,13 @@
 // The top call.
 ghost use Rattle.std.specs.Prelude.{◌≡◌, ◌≤◌, ◌++◌, ◌∷◌, [], ℕ, None, map, IfOk, IfErr, IfSome, IsErrOf, codes};
-ghost use Rattle.std.specs.Io.KnownBytes.{Appends, IsAtEnd};
+ghost use Rattle.std.specs.Io.KnownBytes.{IsAtEnd};
 ghost use Rattle.cq_disk.specs.declared.name.Name.{Name};
 ghost use Rattle.cq_disk.specs.Rose.{Rose};
 ghost use Rattle.cq_disk.specs.Call.{BeforeFuse};
+ghost use Rattle.cq_io.specs.Streams.{Adds};
 ghost use Rattle.cq_script.specs.Scripts.{KeepsLimits};
 ghost use Rattle.cq_replay.specs.Words.{IsCommand};
-ghost use Rattle.cq_replay.specs.Played.{AreLegal, AreServing, FirstServesAll, FirstHeld};
+ghost use Rattle.cq_replay.specs.Played.{AreLegal, AreServing, FirstServesAll, FirstHeld, AreSteady};
 ghost use Rattle.cq_replay.specs.Outcomes.{AgreesWithWords, AgreesWithInput, IsOfForm, IsRefusal, IsEnding, StatusOf, TextAndOk, SaysScript, AreServingInput, ServesAllOf};
 
 use crate::input::{InputError, read_input};
@@ -35,15 +36,20 @@ pub fn offline<S: Source, C: Disk, W: Sink>(
     ensures form { IfSome (S.left source.old) (AgreesWithInput result.status) }
     ensures whole { result.status ≡ Status.Ok → IsAtEnd (S.left source.new) }
 
-    // Whatever the status, what the sessions did was allowed; at Ok the text of the session and `ok` were taken.
+    // Whatever the status, what the sessions did was allowed; at Ok the sink took the lines of the session's text and
+    // `ok`, each line in one put.
     ensures legal { AreLegal result.sessions.items }
-    ensures text { result.status ≡ Status.Ok → TextAndOk (W.taken sink.old) (W.taken sink.new) result.sessions.items }
+    ensures text { result.status ≡ Status.Ok → TextAndOk (W.pieces sink.old) (W.pieces sink.new) result.sessions.items }
 
     // The requests of the script are answered in their order and its words done in theirs: all of them at Ok. Then each
     // publish is confirmed, and the files of the scratch disk hold exactly the messages that were published, in order.
     ensures serves { IfSome (S.left source.old) (AreServingInput result.sessions.items) }
     ensures served { result.status ≡ Status.Ok → ServesAllOf (S.left source.old) result.sessions.items }
     ensures held { result.status ≡ Status.Ok → C.tells → FirstHeld (C.files result.scratch) result.sessions.items }
+
+    // Whatever the status, a crash at any moment has left, and leaves now, a folder that agrees with the journal: it is
+    // sound, and what it holds is what the journal allows to hold.
+    ensures steady { C.tells → AreSteady (C.left result.scratch) (C.moment result.scratch) result.sessions.items }
 
     // A fault is answered only where one came in this call.
     ensures disk { result.status ≡ Status.DiskFault → Rose (C.faults scratch) (C.faults result.scratch) }
@@ -107,10 +113,11 @@ fn served<C: Disk, W: Sink>(alloc: Global, script: Script, scratch: C, sink: &mu
     requires no_files { C.tells → (n : Name) → C.files scratch n ≡ None }
     ensures ending { IsEnding result.status }
     ensures legal { AreLegal result.sessions.items }
-    ensures text { result.status ≡ Status.Ok → TextAndOk (W.taken sink.old) (W.taken sink.new) result.sessions.items }
+    ensures text { result.status ≡ Status.Ok → TextAndOk (W.pieces sink.old) (W.pieces sink.new) result.sessions.items }
     ensures serves { AreServing script.streams script.steps result.sessions.items }
     ensures served { result.status ≡ Status.Ok → FirstServesAll script.streams script.steps result.sessions.items }
     ensures held { result.status ≡ Status.Ok → C.tells → FirstHeld (C.files result.scratch) result.sessions.items }
+    ensures steady { C.tells → AreSteady (C.left result.scratch) (C.moment result.scratch) result.sessions.items }
     ensures disk { result.status ≡ Status.DiskFault → Rose (C.faults scratch) (C.faults result.scratch) }
     ensures struck { result.status ≡ Status.DiskFault → BeforeFuse (C.fuse scratch) (C.moment result.scratch) → Rose (C.struck scratch) (C.struck result.scratch) }
     ensures output { result.status ≡ Status.OutputFault → Rose (W.faults sink.old) (W.faults sink.new) }
@@ -131,7 +138,7 @@ fn served<C: Disk, W: Sink>(alloc: Global, script: Script, scratch: C, sink: &mu
 /// Puts the last line of an ending, and answers its status. If the sink fails on the line of a fault, the status stays.
 fn last_line<W: Sink>(ending: Ending, sink: &mut W) -> Status
     ensures status { StatusOf ending result }
-    ensures ok { result ≡ Status.Ok → Appends (W.taken sink.old) (W.taken sink.new) (codes "ok" ++ 10 ∷ []) }
+    ensures ok { result ≡ Status.Ok → Adds (W.pieces sink.old) (W.pieces sink.new) ((codes "ok" ++ 10 ∷ []) ∷ []) }
     ensures later { W.faults sink.old ≤ W.faults sink.new }
     ensures output { ending ≡ Ending.Served → result ≡ Status.OutputFault → Rose (W.faults sink.old) (W.faults sink.new) }
 {

@@ -10,7 +10,7 @@ ghost use Rattle.cq_disk.specs.Call.{LeavesOnly, Caused, CausedOf, StruckBy, Str
 ghost use Rattle.cq_gate.specs.declared.error.GateError.TheVariants.{Fault as gate_fault, Damaged};
 ghost use Rattle.cq_gate.specs.Format.{BreaksAt};
 ghost use Rattle.cq_gate.specs.Gated.{KeepsOrAdds, From, Step};
-ghost use Rattle.cq_gate.specs.Gate.{Extends, Shows, IfDamaged};
+ghost use Rattle.cq_gate.specs.Gate.{Extends, Shows, IfDamaged, header_calls};
 
 use crate::batch::SmallBatch;
 use cq_disk::{Disk, Fault, Kind, Name};
@@ -34,7 +34,8 @@ pub struct SmallStore {
 }
 
 impl SmallStore {
-    ghost use Rattle.cq_small.specs.Store.{small_name, gate_of, name_of, end_of, len_of, IsStore, HasRecord, StandsAt, IsWhole};
+    ghost use Rattle.cq_small.specs.Record.{HasRecord};
+    ghost use Rattle.cq_small.specs.Store.{small_name, gate_of, name_of, end_of, len_of, IsStore, StandsAt, IsWhole};
 
     /// Makes the file, with no record.
     pub fn create<D: Disk>(disk: &mut D, queue: u32, number: u64) -> Result<SmallStore, Fault>
@@ -45,6 +46,7 @@ impl SmallStore {
         ensures others { D.tells → (n : Name) → n ≢ small_name queue number → D.files disk.new n ≡ D.files disk.old n }
         // A crash at any moment leaves no file of this name, or an empty one.
         ensures any_moment { D.tells → LeavesOnly D.moment D.left disk.old disk.new (Creates (small_name queue number) (D.files disk.old)) }
+        ensures calls { OnOk result (D.moment disk.new ≡ D.moment disk.old + 1) }
         ensures cause { Caused (D.faults disk.old) (D.faults disk.new) result }
         ensures later { D.moment disk.old ≤ D.moment disk.new }
         ensures strike { StruckBy (D.fuse disk.old) (D.moment disk.new) (D.struck disk.old) (D.struck disk.new) result }
@@ -93,6 +95,7 @@ impl SmallStore {
         ensures others { D.tells → (n : Name) → n ≢ name_of self.old → D.files disk.new n ≡ D.files disk.old n }
         // A crash at any moment leaves the records as they were, or all of the batch with them.
         ensures any_moment { D.tells → LeavesOnly D.moment D.left disk.old disk.new (OnFile (name_of self.old) (D.files disk.old) (From (D.files disk.old (name_of self.old)) (KeepsOrAdds 2 batch.now))) }
+        ensures calls { OnOk result (D.moment disk.new ≡ D.moment disk.old + (header_calls (len_of self.old) + 5)) }
         ensures cause { Caused (D.faults disk.old) (D.faults disk.new) result }
         ensures later { D.moment disk.old ≤ D.moment disk.new }
         ensures strike { StruckBy (D.fuse disk.old) (D.moment disk.new) (D.struck disk.old) (D.struck disk.new) result }
@@ -111,6 +114,7 @@ impl SmallStore {
         ensures same { gate_of self.new ≡ gate_of self.old }
         ensures files { D.tells → SameFiles (D.files disk.old) (D.files disk.new) }
         ensures any_moment { D.tells → LeavesOnly D.moment D.left disk.old disk.new (IsImage (D.files disk.old)) }
+        ensures calls { OnOk result (D.moment disk.new ≡ D.moment disk.old + 1) }
         ensures cause { Caused (D.faults disk.old) (D.faults disk.new) result }
         ensures later { D.moment disk.old ≤ D.moment disk.new }
         ensures strike { StruckBy (D.fuse disk.old) (D.moment disk.new) (D.struck disk.old) (D.struck disk.new) result }

@@ -3,9 +3,9 @@ ghost use Rattle.cq_queue.specs.Items.{is_out_to, out_for, settled_items, settle
 ghost use Rattle.cq_queue.specs.Slots.{alive, passes, places};
 ghost use Rattle.cq_queue.specs.Outs.{find};
 ghost use Rattle.cq_queue.specs.Queue.{AreOutOnce, FindsOut, ListsGone};
-ghost use Rattle.std.specs.VecDeque.{deque_capacity};
 ghost use Rattle.std.specs.Prelude.{length, ◌≡◌, ◌<◌, ◌≤◌, ◌++◌, ◌∷◌, [], ℕ, true, if◌then◌else◌, is_some, Some, vec_capacity};
 
+use crate::line::Line;
 use crate::outs::Outs;
 use crate::slots::close_up;
 use crate::{Holder, Item, QueueCore};
@@ -15,14 +15,14 @@ use std::collections::VecDeque;
 const FEWEST_EMPTY: usize = 64;
 
 /// Notes the place of a message that waits.
-fn note_waiting(waiting: &mut VecDeque<usize>, slot: &Option<Item>, at: usize)
-    requires { passes waits slot.now ≡ true → length waiting.old.items < deque_capacity waiting.old }
+fn note_waiting(waiting: &mut Line, slot: &Option<Item>, at: usize)
+    requires { passes waits slot.now ≡ true → length waiting.old.items < waiting.old.room }
     ensures items { waiting.new.items ≡ waiting.old.items ++ (if passes waits slot.now then at ∷ [] else []) }
-    ensures capacity { deque_capacity waiting.new ≡ deque_capacity waiting.old }
+    ensures capacity { waiting.new.room ≡ waiting.old.room }
 {
     if let Some(item) = slot {
         match item.holder {
-            Holder::Waiting => waiting.push_back_reserved(at),
+            Holder::Waiting => waiting.push(at),
             Holder::Out { .. } => {}
             Holder::Gone => {}
         }
@@ -67,16 +67,16 @@ fn note_settling(gone: &mut Vec<usize>, slot: &Option<Item>, at: usize)
 /// Notes afresh which place waits, is out or is to be settled.
 fn renumber(
     slots: &VecDeque<Option<Item>>,
-    waiting: &mut VecDeque<usize>,
+    waiting: &mut Line,
     outs: &mut Outs,
     gone: &mut Vec<usize>,
 )
     requires known { (c d : ℕ) → is_some (find c d outs.old.held) ≡ is_out_to c d (alive slots.now.items) }
     requires once { AreOutOnce (alive slots.now.items) }
-    requires waiting_fits { length (waiting_items (alive slots.now.items)) ≤ deque_capacity waiting.old }
+    requires waiting_fits { length (waiting_items (alive slots.now.items)) ≤ waiting.old.room }
     requires gone_fits { length (settled_items (alive slots.now.items)) ≤ vec_capacity gone.old }
     ensures waiting { waiting.new.items ≡ places waits 0 slots.now.items }
-    ensures waiting_room { deque_capacity waiting.new ≡ deque_capacity waiting.old }
+    ensures waiting_room { waiting.new.room ≡ waiting.old.room }
     ensures out { FindsOut slots.now.items outs.new.held }
     ensures out_len { length outs.new.held ≡ length outs.old.held }
     ensures out_room { outs.new.room ≡ outs.old.room }

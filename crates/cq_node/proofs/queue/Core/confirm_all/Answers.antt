@@ -1,4 +1,4 @@
-use Rattle.std.proofs.Common.{◌≡◌, ◌≤◌, ◌+◌, ◌∷◌, [], get_or, drop, length, refl, sym, ap, ◌∙◌, subst, arith, append-nil}
+use Rattle.std.proofs.Common.{◌≡◌, ℕ, suc, ◌≤◌, ◌+◌, ◌∷◌, [], get_or, drop, length, refl, sym, ap, ◌∙◌, subst, arith, append-nil}
 use Rattle.std.proofs.lemmas.List.{drop_more, drop-drop}
 use Rattle.cq_journal.specs.Asks.{asks}
 use Rattle.cq_journal.specs.History.{line}
@@ -6,7 +6,10 @@ use Rattle.cq_journal.specs.Legal.{newest}
 use Rattle.cq_journal.specs.declared.event.Entry.{Entry}
 use Rattle.cq_journal.specs.declared.event.Event.TheVariants.{Confirmed}
 use Rattle.cq_node.specs.declared.queue.Spot.{Spot}
+use Rattle.cq_held.specs.Standing.{confirm_all}
+use Rattle.cq_node.specs.Agreeing.{passes}
 use Rattle.cq_node.specs.Core.{undecided, IsQuiet}
+use Rattle.cq_node.proofs.Passing.{passed_more, passed_count}
 use Rattle.cq_journal.specs.Confirms.{confirmed}
 use Rattle.cq_node.specs.Layout.{unstored, records_end, IsFirstSpot}
 use Rattle.cq_node.proofs.Batches.{length-numbered}
@@ -23,6 +26,8 @@ loop-spot-init c =
       left = omega (arith, count);
       reserved = omega (arith, c.requires.reserved);
       quiet = record { asked = refl; published_same = refl; lines_same = λ q. refl; confirms_alone = record { added = []; is = refl; each = tt } };
+      exact = refl;
+      since = record { added = []; is = refl; since = tt };
       later = c.requires.later;
       rest = sym c.requires.places;
       whole = λ w. w;
@@ -54,6 +59,14 @@ loop-spot-preserved c =
           each = (refl, so_far.quiet.confirms_alone.each);
         };
       };
+      exact =
+          let count : confirmed c.args.self.now.entries + c.loop-spot.spot-index ≡ confirmed old = sym (ap confirmed so_far.exact ∙ passed_count c.args.stamp (confirmed c.args.self.now.entries) c.loop-spot.spot-index c.args.self.now.entries) in
+          let more : suc c.loop-spot.spot-index ≡ c.loop-spot.spot-index + 1 = omega arith in
+          is ∙ ap (λ l. next ∷ l) so_far.exact
+          ∙ ap (λ (k : ℕ). record { event = Confirmed 0 k (k + 1); stamp = c.args.stamp } ∷ confirm_all c.args.stamp (passes (confirmed c.args.self.now.entries) c.loop-spot.spot-index) c.args.self.now.entries) (sym count)
+          ∙ sym (passed_more c.args.stamp (confirmed c.args.self.now.entries) c.loop-spot.spot-index c.args.self.now.entries)
+          ∙ ap (λ k. confirm_all c.args.stamp (passes (confirmed c.args.self.now.entries) k) c.args.self.now.entries) more;
+      since = record { added = next ∷ so_far.since.added; is = is ∙ ap (λ l. next ∷ l) so_far.since.is; since = (omega arith, so_far.since.since) };
       later = subst (λ l. newest l ≤ c.args.stamp) (sym is) (omega arith);
       rest = c.confirm.ensures.rest ∙ ap (drop 1) so_far.rest ∙ drop-drop 1 c.loop-spot.spot-index c.args.spots.now;
       whole = λ w. c.confirm.ensures.whole (so_far.whole w);

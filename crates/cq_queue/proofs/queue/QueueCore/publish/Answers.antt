@@ -15,7 +15,7 @@ pub invariant_of-self : goal.invariant_of-self
 invariant_of-self c =
     let some : 0 < c.self.inside.reserved = subst (λ (v : Queue). 0 < v.reserved) (sym c.self.view_is) c.requires in
     let at : c.len-at.result ≡ length c.self.inside.slots.items = omega (arith, c.len-at.ensures) in
-    rw (c.push_back_reserved.ensures.items, c.push_back_reserved-2.ensures.items, c.push_back_reserved.ensures.capacity, c.push_back_reserved-2.ensures.capacity, at, c.kind_of-kind.ensures) (
+    rw (c.push_back_reserved.ensures.items, c.push.ensures.items, c.push_back_reserved.ensures.capacity, c.push.ensures.room, at, c.kind_of-kind.ensures) (
       indexed-published c.self.inside.slots.items c.self.inside.waiting.items c.self.inside.outs.held c.self.inside.gone.items c.self.inside.first c.args.id c.args.len c.args.body c.self.invariant.0,
       room-enough c.self.invariant.1 _ _ _ _ _ _ _ _ _ (omega (arith, length_push c.self.inside.slots.items (Some (new_item c.args.id c.args.body c.args.len)))) (omega (arith, length_push c.self.inside.waiting.items (length c.self.inside.slots.items)))
           (omega (arith, length_push c.self.inside.waiting.items (length c.self.inside.slots.items))) (omega arith) (omega arith) (omega arith) (omega arith),

@@ -9,7 +9,7 @@ use Rattle.cq_replay.proofs.player.Player.finish.Goals as goal
 pub loop-round-init : goal.loop-round-init
 loop-round-init g c = (
   record { running = c.requires.open; later = omega arith; faults_later = omega arith; struck_later = omega arith; same_fuse = refl; same_plan = refl },
-  record { added = []; is = refl; same = refl },
+  record { added = []; is = refl; since = tt; same = refl },
   c.requires.none_kept,
   refl,
   omega arith,
@@ -33,7 +33,7 @@ loop-round-preserved g c =
     let so_far = c.loop-round.invariant in (
       goes_next node_fault c.round.result b.node.store.halted e.node.store.halted (d.moment a.node.store.disk) (d.moment b.node.store.disk) (d.moment e.node.store.disk) (d.faults a.node.store.disk) (d.faults b.node.store.disk) (d.faults e.node.store.disk) (d.struck a.node.store.disk) (d.struck b.node.store.disk) (d.struck e.node.store.disk) (d.fuse a.node.store.disk) (d.fuse b.node.store.disk) (d.fuse e.node.store.disk) (d.planned a.node.store.disk) (d.planned b.node.store.disk) (d.planned e.node.store.disk)
           so_far.0 c.in_ok-round.ensures.goes_on c.round.ensures.later c.round.ensures.cause c.round.ensures.strike c.round.ensures.plan,
-      then a.node.core.entries b.node.core.entries e.node.core.entries a.node.waiting b.node.waiting e.node.waiting a.rest.items b.rest.items e.rest.items so_far.1 (c.round.ensures.moves),
+      then (g.D.Disk.moment a.node.store.disk) (g.D.Disk.moment b.node.store.disk) c.loop-round.invariant.0.later a.node.core.entries b.node.core.entries e.node.core.entries a.node.waiting b.node.waiting e.node.waiting a.rest.items b.rest.items e.rest.items so_far.1 (c.round.ensures.moves),
       c.in_ok-round.ensures.none_kept,
       c.round.ensures.after ∙ so_far.3,
       omega (arith, so_far.4, c.in_ok-round.ensures.fewer),
@@ -44,7 +44,7 @@ returns-in_err-round-clause-moves g c =
     let a = c.args.self.now in
     let b = c.loop-round.self in
     let e = c.round.new.self in
-    then a.node.core.entries b.node.core.entries e.node.core.entries a.node.waiting b.node.waiting e.node.waiting a.rest.items b.rest.items e.rest.items c.loop-round.invariant.1 (c.round.ensures.moves)
+    then (g.D.Disk.moment a.node.store.disk) (g.D.Disk.moment b.node.store.disk) c.loop-round.invariant.0.later a.node.core.entries b.node.core.entries e.node.core.entries a.node.waiting b.node.waiting e.node.waiting a.rest.items b.rest.items e.rest.items c.loop-round.invariant.1 (c.round.ensures.moves)
 
 pub returns-in_err-round-clause-after : goal.returns-in_err-round-clause-after
 returns-in_err-round-clause-after g c = c.round.ensures.after ∙ c.loop-round.invariant.3
@@ -57,7 +57,7 @@ returns-clause-moves g c =
     let a = c.args.self.now in
     let b = c.loop-round.self in
     let e = c.write_all.new.self in
-    then a.node.core.entries b.node.core.entries e.node.core.entries a.node.waiting b.node.waiting e.node.waiting a.rest.items b.rest.items e.rest.items c.loop-round.invariant.1 (c.write_all.ensures.moves)
+    then (g.D.Disk.moment a.node.store.disk) (g.D.Disk.moment b.node.store.disk) c.loop-round.invariant.0.later a.node.core.entries b.node.core.entries e.node.core.entries a.node.waiting b.node.waiting e.node.waiting a.rest.items b.rest.items e.rest.items c.loop-round.invariant.1 (c.write_all.ensures.moves)
 
 pub returns-clause-after : goal.returns-clause-after
 returns-clause-after g c = c.write_all.ensures.after ∙ c.loop-round.invariant.3

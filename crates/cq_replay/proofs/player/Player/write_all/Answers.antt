@@ -13,8 +13,8 @@ loop-preserved g c =
     let so_far = c.loop.invariant in (
       goes_next node_fault c.write.result b.node.store.halted e.node.store.halted (d.moment a.node.store.disk) (d.moment b.node.store.disk) (d.moment e.node.store.disk) (d.faults a.node.store.disk) (d.faults b.node.store.disk) (d.faults e.node.store.disk) (d.struck a.node.store.disk) (d.struck b.node.store.disk) (d.struck e.node.store.disk) (d.fuse a.node.store.disk) (d.fuse b.node.store.disk) (d.fuse e.node.store.disk) (d.planned a.node.store.disk) (d.planned b.node.store.disk) (d.planned e.node.store.disk)
           so_far.0 c.in_ok-write.ensures.goes_on c.write.ensures.later c.write.ensures.cause c.write.ensures.strike c.write.ensures.plan,
-      then a.node.core.entries b.node.core.entries e.node.core.entries a.node.waiting b.node.waiting e.node.waiting a.rest.items b.rest.items e.rest.items so_far.1
-          (wrote c.write.result b.node.core.entries e.node.core.entries b.node.waiting e.node.waiting b.rest.items e.rest.items c.write.ensures.wrote c.write.ensures.same.0 (ap (λ q. q.items) c.write.ensures.same.1)),
+      then (g.D.Disk.moment a.node.store.disk) (g.D.Disk.moment b.node.store.disk) c.loop.invariant.0.later a.node.core.entries b.node.core.entries e.node.core.entries a.node.waiting b.node.waiting e.node.waiting a.rest.items b.rest.items e.rest.items so_far.1
+          (wrote c.write.result (d.moment b.node.store.disk) b.node.core.entries e.node.core.entries b.node.waiting e.node.waiting b.rest.items e.rest.items c.write.ensures.wrote c.write.ensures.same.0 (ap (λ q. q.items) c.write.ensures.same.1)),
       c.write.ensures.same.0 ∙ so_far.2,
       c.write.ensures.same.1 ∙ so_far.3,
       c.write.ensures.after ∙ so_far.4,

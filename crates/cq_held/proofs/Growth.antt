@@ -1,0 +1,141 @@
+-- Files whose contents have grown hold what they held, and more.
+use Rattle.std.proofs.Common.{◌≡◌, ◌≢◌, ◌⊎◌, inl, inr, ⊎_elim, ℕ, suc, ◌-◌, ◌≤◌, Bool, List, [], ◌∷◌, ◌++◌, map, refl, sym, ap, ◌∙◌, subst, append_assoc, arith}
+use Rattle.std.specs.Prelude.{◌==◌, if◌then◌else◌}
+use Rattle.std.specs.List.{AllByRecursion}
+use Rattle.std.proofs.lemmas.Bool.{cases_eq, eq-eqb, ne_eqb}
+use Rattle.cq_disk.specs.declared.name.Kind.TheVariants.{Index, Small}
+use Rattle.cq_disk.specs.declared.name.Name.{Name}
+use Rattle.cq_entry.specs.declared.entry.Entry.{Entry}
+use Rattle.cq_entry.specs.declared.entry.Seen.{Seen}
+use Rattle.cq_entry.specs.declared.entry.Seen.TheVariants.{Present}
+use Rattle.cq_entry.specs.Entry.{entry_bytes, IsPresent}
+use Rattle.cq_small.specs.Record.{StandsIn}
+use Rattle.cq_small.specs.Store.{small_name}
+use Rattle.cq_small.proofs.Records.{record_kept}
+use Rattle.cq_index.specs.Places.{index_name, entries_bytes}
+use Rattle.cq_journal.specs.declared.event.Message.{Message}
+use Rattle.cq_held.specs.Held.{AreEntries, present, Spot, spots, below, Zip, IsMessageOf, HoldsIn}
+use Rattle.cq_held.specs.Folder.{Grows}
+use Rattle.cq_held.specs.Standing.{IsLast}
+use Rattle.cq_held.proofs.Below.{below_same, below_both, zip_append, zip_wider}
+use Rattle.cq_held.proofs.Entries.{entries_append, entries_are, present_append}
+use Rattle.cq_held.proofs.Images.{at_name}
+
+grows_each : (name : Name) (bytes : List ℕ) (F G : Name → List ℕ) → Grows name bytes F G → (n : Name) → (G n ≡ F n) ⊎ (G n ≡ F n ++ bytes)
+grows_each name bytes F G grows = at_name (λ n. (G n ≡ F n) ⊎ (G n ≡ F n ++ bytes)) name (inr grows.this) (λ n other. inl (grows.others n other))
+
+index_is_not : (q n q' n' : ℕ) → index_name q n ≢ small_name q' n'
+index_is_not q n q' n' e = let k : Index ≡ Small = ap (λ (m : Name). m.kind) e in cc
+
+small_is_not : (q n q' n' : ℕ) → small_name q n ≢ index_name q' n'
+small_is_not q n q' n' e = index_is_not q' n' q n (sym e)
+
+-- ---- records more
+
+stands_more : (place : ℕ) (body content more : List ℕ) → StandsIn content place body → StandsIn (content ++ more) place body
+stands_more place body content more s = record { from = s.from; is = record_kept content more (place - 128) body s.is }
+
+-- where the indexes stay, and each entry's message stays its message
+pub same_index : (F G : Name → List ℕ) (q : ℕ) (l : List Message) → ((n : ℕ) → G (index_name q n) ≡ F (index_name q n)) → ((s : Spot) (m : Message) → IsMessageOf F q s m → IsMessageOf G q s m) → HoldsIn F q l → HoldsIn G q l
+same_index F G q l same still h = record {
+  seen = h.seen;
+  entries = λ n. subst (λ (c : List ℕ). AreEntries c (h.seen n)) (sym (same n)) (h.entries n);
+  most = h.most;
+  none = h.none;
+  each = zip_wider (IsMessageOf F q) (IsMessageOf G q) (below (λ n. spots n (present (h.seen n))) h.most) l still h.each;
+}
+
+message_more : (F G : Name → List ℕ) (q : ℕ) (bytes : List ℕ) → ((n : ℕ) → (G (small_name q n) ≡ F (small_name q n)) ⊎ (G (small_name q n) ≡ F (small_name q n) ++ bytes)) → (s : Spot) (m : Message) → IsMessageOf F q s m → IsMessageOf G q s m
+message_more F G q bytes more s m was = record {
+  id = was.id;
+  len = was.len;
+  kind = was.kind;
+  stands = ⊎_elim
+      (λ same. subst (λ (c : List ℕ). StandsIn c s.entry.place m.body) (sym same) was.stands)
+      (λ grew. subst (λ (c : List ℕ). StandsIn c s.entry.place m.body) (sym grew) (stands_more s.entry.place m.body (F (small_name q s.segment)) bytes was.stands))
+      (more s.segment);
+}
+
+-- bytes that join a small store change nothing of what is held
+pub small_grows : (F G : Name → List ℕ) (r n : ℕ) (bytes : List ℕ) → Grows (small_name r n) bytes F G → (q : ℕ) (l : List Message) → HoldsIn F q l → HoldsIn G q l
+small_grows F G r n bytes grows q l h = same_index F G q l (λ k. grows.others (index_name q k) (index_is_not q k r n)) (message_more F G q bytes (λ k. grows_each (small_name r n) bytes F G grows (small_name q k))) h
+
+-- ---- entries more
+
+spots_append : (n : ℕ) (a b : List Entry) → spots n (a ++ b) ≡ spots n a ++ spots n b
+spots_append n [] b = refl
+spots_append n (e ∷ es) b = ap (λ (ss : List Spot). record { segment = n; entry = e } ∷ ss) (spots_append n es b)
+
+-- another queue holds what it held
+pub index_grows_other : (F G : Name → List ℕ) (r n : ℕ) (bytes : List ℕ) → Grows (index_name r n) bytes F G → (q : ℕ) (l : List Message) → q ≢ r → HoldsIn F q l → HoldsIn G q l
+index_grows_other F G r n bytes grows q l other h = same_index F G q l
+    (λ k. grows.others (index_name q k) (λ e. other (ap (λ (m : Name). m.queue) e)))
+    (message_more F G q bytes (λ k. inl (grows.others (small_name q k) (small_is_not q k r n)))) h
+
+module _ (F G : Name → List ℕ) (q n : ℕ) (es : List Entry) (grows : Grows (index_name q n) (entries_bytes es) F G) (l ms : List Message) (h : HoldsIn F q l)
+    (last : IsLast F q n) (valid : AllByRecursion (λ e. IsPresent (entry_bytes e) e) es) (new : Zip (IsMessageOf F q) (spots n es) ms) where
+  abbrev seen' : ℕ → List Seen
+  seen' k = if k == n then h.seen k ++ map Present es else h.seen k
+
+  at_n : seen' n ≡ h.seen n ++ map Present es
+  at_n = ap (λ (b : Bool). if b then h.seen n ++ map Present es else h.seen n) (eq-eqb n n refl)
+
+  off_n : (k : ℕ) → k ≢ n → seen' k ≡ h.seen k
+  off_n k other = ap (λ (b : Bool). if b then h.seen k ++ map Present es else h.seen k) (ne_eqb k n other)
+
+  front : ℕ → List Spot
+  front k = spots k (present (h.seen k))
+
+  next : ℕ → List Spot
+  next k = spots k (present (seen' k))
+
+  off_next : (k : ℕ) → k ≢ n → next k ≡ front k
+  unfolding front next
+  off_next k other = ap (λ (s : List Seen). spots k (present s)) (off_n k other)
+
+  at_next : next n ≡ front n ++ spots n es
+  unfolding front next
+  at_next = ap (λ (s : List Seen). spots n (present s)) at_n ∙ ap (spots n) (present_append (h.seen n) es) ∙ spots_append n (present (h.seen n)) es
+
+  above_none : (k : ℕ) → suc n ≤ k → present (h.seen k) ≡ []
+  above_none k gt = last k (omega (arith, gt)) (h.seen k) (h.entries k)
+
+  above : (k : ℕ) → suc n ≤ k → front k ≡ []
+  unfolding front
+  above k gt = ap (spots k) (above_none k gt)
+
+  above_old : (k : ℕ) → h.most ≤ k → front k ≡ []
+  unfolding front
+  above_old k ge = ap (spots k) (h.none k ge)
+
+  all_next : below next (suc n) ≡ below front h.most ++ spots n es
+  all_next =
+      let start : below next n ≡ below front n = below_same next front n (λ k lt. off_next k (λ e. omega (arith, e, lt))) in
+      ap (λ (xs : List Spot). xs ++ next n) start
+      ∙ ap (λ (xs : List Spot). below front n ++ xs) at_next
+      ∙ sym (append_assoc (below front n) (front n) (spots n es))
+      ∙ ap (λ (xs : List Spot). xs ++ spots n es) (below_both front (suc n) h.most above above_old)
+
+  entries_next : (k : ℕ) → AreEntries (G (index_name q k)) (seen' k)
+  entries_next k = ⊎_elim
+      (λ here. subst (λ (j : ℕ). AreEntries (G (index_name q j)) (seen' j)) (sym here)
+      (subst (λ (s : List Seen). AreEntries (G (index_name q n)) s) (sym at_n)
+      (subst (λ (c : List ℕ). AreEntries c (h.seen n ++ map Present es)) (sym grows.this) (entries_append (F (index_name q n)) (entries_bytes es) (h.seen n) (map Present es) (h.entries n) (entries_are es valid)))))
+      (λ other. subst (λ (s : List Seen). AreEntries (G (index_name q k)) s) (sym (off_n k other))
+      (subst (λ (c : List ℕ). AreEntries c (h.seen k)) (sym (grows.others (index_name q k) (λ e. other (ap (λ (m : Name). m.number) e)))) (h.entries k)))
+      (cases_eq k n)
+
+  -- the queue's greatest segment has got entries
+  pub index_grows : HoldsIn G q (l ++ ms)
+  unfolding front next
+  index_grows = record {
+    seen = seen';
+    entries = entries_next;
+    most = suc n;
+    none = λ k ge. ap present (off_n k (λ e. omega (arith, e, ge))) ∙ above_none k ge;
+    each = subst (λ (ss : List Spot). Zip (IsMessageOf G q) ss (l ++ ms)) (sym all_next)
+        (zip_append (IsMessageOf G q) (below front h.most) (spots n es) l ms (still (below front h.most) l h.each) (still (spots n es) ms new));
+  }
+    where
+      still : (ss : List Spot) (ks : List Message) → Zip (IsMessageOf F q) ss ks → Zip (IsMessageOf G q) ss ks
+      still ss ks z = zip_wider (IsMessageOf F q) (IsMessageOf G q) ss ks (message_more F G q [] (λ k. inl (grows.others (small_name q k) (small_is_not q k q n)))) z

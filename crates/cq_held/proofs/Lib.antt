@@ -1,0 +1,11 @@
+pub mod Below
+pub mod Entries
+pub mod Time
+pub mod Images
+pub mod Growth
+pub mod Sublists
+pub mod Bodies
+pub mod Journals
+pub mod Kept
+pub mod One
+pub mod Members

@@ -1,0 +1,48 @@
+use Rattle.std.proofs.Common.{sym, subst}
+use Rattle.cq_small.specs.Store.{small_name}
+use Rattle.cq_index.specs.Places.{index_name}
+use Rattle.cq_index.specs.Segments.{IsFiled}
+use Rattle.cq_index.proofs.Known.{filed, of_filed}
+use Rattle.cq_node.proofs.Agreeing.{come_joined}
+use Rattle.cq_node.proofs.Files.{apart, small_as}
+use Rattle.cq_node.proofs.store.Store.commit.Goals as goal
+
+pub add_entries-requires-clause-knows : goal.add_entries-requires-clause-knows
+add_entries-requires-clause-knows g c = λ told.
+    let s = c.args.self.now in
+    of_filed s.index _ (subst (IsFiled s.index) (sym (c.add_records.ensures.others told (index_name 0 0) (apart 0 0))) ((s.index_filed c.requires.open).knows told))
+
+pub invariant_of-self-2 : goal.invariant_of-self-2
+invariant_of-self-2 g c = record {
+  small_filed = λ _. small_as _ _ _ _ (λ told. c.add_entries.ensures.others told (small_name 0 0) (λ same. apart 0 0 (sym same))) c.in_ok-small.ensures.file;
+  index_filed = λ _. record {
+    named = c.add_entries.ensures.named;
+    vacant = λ none. cc;
+    made = λ store is. c.in_ok-add_entries.ensures.open;
+    knows = λ told. filed _ _ (c.in_ok-add_entries.ensures.knows told);
+  };
+}
+
+pub returns-in_err-small-clause-steady : goal.returns-in_err-small-clause-steady
+returns-in_err-small-clause-steady g c = λ told past lines ms legal stands will steady. c.add_records.ensures.steady told past lines stands steady
+
+pub returns-in_err-add_entries-clause-steady : goal.returns-in_err-add_entries-clause-steady
+returns-in_err-add_entries-clause-steady g c = λ told past lines ms legal stands will steady.
+    let files = g.D.Disk.files in
+    c.add_entries.ensures.steady told past lines ms legal (c.in_ok-small.ensures.stands told past lines stands)
+    (come_joined (files c.args.self.now.disk) (files c.add_records.new.disk) c.args.records.now past lines c.args.entries.now ms (c.in_ok-small.ensures.content told) (c.add_records.ensures.others told) will)
+    (c.add_records.ensures.steady told past lines stands steady)
+
+pub returns-clause-steady : goal.returns-clause-steady
+returns-clause-steady g c = λ told past lines ms legal stands will steady.
+    let files = g.D.Disk.files in
+    c.add_entries.ensures.steady told past lines ms legal (c.in_ok-small.ensures.stands told past lines stands)
+    (come_joined (files c.args.self.now.disk) (files c.add_records.new.disk) c.args.records.now past lines c.args.entries.now ms (c.in_ok-small.ensures.content told) (c.add_records.ensures.others told) will)
+    (c.add_records.ensures.steady told past lines stands steady)
+
+pub returns-clause-stands : goal.returns-clause-stands
+returns-clause-stands g c = λ told past lines ms legal will stands.
+    let files = g.D.Disk.files in
+    c.in_ok-add_entries.ensures.stands told past lines ms legal
+    (come_joined (files c.args.self.now.disk) (files c.add_records.new.disk) c.args.records.now past lines c.args.entries.now ms (c.in_ok-small.ensures.content told) (c.add_records.ensures.others told) will)
+    (c.in_ok-small.ensures.stands told past lines stands)
