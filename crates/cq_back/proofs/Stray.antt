@@ -1,0 +1,122 @@
+-- Small stores whose index isn't there hold nothing: with or without them, a folder holds the same.
+use Rattle.std.proofs.Common.{◌≡◌, ◌⊎◌, inl, inr, ⊎_elim, ℕ, zero, suc, ◌≤◌, List, [], ◌∷◌, ◌++◌, Option, Some, None, Result, Ok, Err, IfOk, OnOk, length, refl, sym, ap, subst, arith}
+use Rattle.std.specs.List.{AllByRecursion}
+use Rattle.cq_disk.specs.declared.name.Name.{Name}
+use Rattle.cq_disk.specs.declared.name.Kind.TheVariants.{Index, Small}
+use Rattle.cq_disk.specs.Call.{Image}
+use Rattle.cq_disk.specs.File.{File}
+use Rattle.cq_disk.specs.Files.{IsImageOf}
+use Rattle.cq_disk.specs.FileLemmas.{settled_only}
+use Rattle.cq_entry.specs.declared.entry.Entry.{Entry}
+use Rattle.cq_entry.specs.declared.entry.Seen.{Seen}
+use Rattle.cq_small.specs.Record.{StandsIn}
+use Rattle.cq_small.specs.Store.{small_name}
+use Rattle.cq_index.specs.Places.{index_name}
+use Rattle.cq_journal.specs.declared.event.Message.{Message}
+use Rattle.cq_journal.specs.History.{opened_in}
+use Rattle.cq_held.specs.Held.{AreEntries, present, Spot, spots, below, Zip, IsMessageOf, HoldsIn, as_read, bytes_in, contents_of, content_of}
+use Rattle.cq_held.specs.Folder.{IsFormedAs, HasContent}
+use Rattle.cq_held.specs.Steady.{SoundBy}
+use Rattle.cq_back.specs.declared.found.FoundQueue.{FoundQueue}
+use Rattle.cq_back.specs.Folder.{IsSettled, IsImageOrWithout, IsWithoutStray, StillHolds}
+
+-- each content is as it was, but that those of small stores whose index is empty may be others
+abbrev IsLess : (Name → List ℕ) → (Name → List ℕ) → Type 0
+IsLess old new = (n : Name) → (new n ≡ old n) ⊎ ((n.kind ≡ Small) × (old (index_name n.queue n.number) ≡ []))
+
+all_append : {A : Type 0} (P : A → Type 0) (xs ys : List A) → AllByRecursion P xs → AllByRecursion P ys → AllByRecursion P (xs ++ ys)
+all_append P [] ys a b = b
+all_append P (x ∷ xs) ys a b = (a.0, all_append P xs ys a.1 b)
+
+all_below : {A : Type 0} (P : A → Type 0) (f : ℕ → List A) (m : ℕ) → ((n : ℕ) → AllByRecursion P (f n)) → AllByRecursion P (below f m)
+all_below P f zero each = tt
+all_below P f (suc m) each = all_append P (below f m) (f m) (all_below P f m each) (each m)
+
+zip_where : {A B : Type 0} (P : A → Type 0) (R S : A → B → Type 0) (xs : List A) (ys : List B) → AllByRecursion P xs → ((x : A) (y : B) → P x → R x y → S x y) → Zip R xs ys → Zip S xs ys
+zip_where P R S [] [] all step z = tt
+zip_where P R S [] (y ∷ ys) all step z = absurd z
+zip_where P R S (x ∷ xs) [] all step z = absurd z
+zip_where P R S (x ∷ xs) (y ∷ ys) all step z = (step x y all.0 z.0, zip_where P R S xs ys all.1 step z.1)
+
+index_small : Index ≡ Small → ⊥
+index_small e = cc
+
+module _ (old new : Name → List ℕ) (less : IsLess old new) (q : ℕ) where
+  abbrev Occupied : Spot → Type 0
+  Occupied s = 1 ≤ length (old (index_name q s.segment))
+
+  spots_occupied : (n : ℕ) (es : List Entry) → 1 ≤ length (old (index_name q n)) → AllByRecursion Occupied (spots n es)
+  spots_occupied n [] some = tt
+  spots_occupied n (e ∷ es) some = (some, spots_occupied n es some)
+
+  seen_occupied : (n : ℕ) (seen : List Seen) → AreEntries (old (index_name q n)) seen → AllByRecursion Occupied (spots n (present seen))
+  seen_occupied n [] are = tt
+  seen_occupied n (s ∷ seen) are = let inside = are.0 in spots_occupied n (present (s ∷ seen)) (omega (arith, inside))
+
+  same_index : (n : ℕ) → new (index_name q n) ≡ old (index_name q n)
+  same_index n = ⊎_elim (λ same. same) (λ gone. absurd (index_small gone.0)) (less (index_name q n))
+
+  same_small : (n : ℕ) → 1 ≤ length (old (index_name q n)) → new (small_name q n) ≡ old (small_name q n)
+  same_small n some = ⊎_elim (λ same. same) (λ gone. let none : length (old (index_name q n)) ≡ 0 = ap length gone.1 in absurd (omega (arith, none, some))) (less (small_name q n))
+
+  still_message : (s : Spot) (m : Message) → Occupied s → IsMessageOf old q s m → IsMessageOf new q s m
+  still_message s m some is = record {
+    id = is.id;
+    len = is.len;
+    kind = is.kind;
+    stands = subst (λ (l : List ℕ). StandsIn l s.entry.place m.body) (sym (same_small s.segment some)) is.stands;
+  }
+
+  less_holds : (ms : List Message) → HoldsIn old q ms → HoldsIn new q ms
+  less_holds ms h = record {
+    seen = h.seen;
+    entries = λ n. subst (λ (l : List ℕ). AreEntries l (h.seen n)) (sym (same_index n)) (h.entries n);
+    most = h.most;
+    none = h.none;
+    each = zip_where Occupied (IsMessageOf old q) (IsMessageOf new q) (below (λ n. spots n (present (h.seen n))) h.most) ms
+        (all_below Occupied (λ n. spots n (present (h.seen n))) h.most (λ n. seen_occupied n (h.seen n) (h.entries n))) still_message h.each;
+  }
+
+-- files without some stray small stores
+pub without_sound : (old new : Name → Option File) (lines : ℕ → List Message) → IsWithoutStray old new → SoundBy (as_read old) lines → SoundBy (as_read new) lines
+without_sound old new lines step sound = record {
+  formed = λ n. ⊎_elim (λ same. subst (λ (o : Option File). IsFormedAs n (bytes_in o)) (sym same) (sound.formed n)) (λ gone. subst (λ (o : Option File). IsFormedAs n (bytes_in o)) (sym gone.1) tt) (step n);
+  held = λ q. less_holds (contents_of (as_read old)) (contents_of (as_read new))
+      (λ n. ⊎_elim (λ same. inl (ap (λ (o : Option File). content_of (bytes_in o)) same)) (λ gone. inr (gone.0.kind, ap (λ (o : Option File). content_of (bytes_in o)) gone.0.alone)) (step n)) q (lines q) (sound.held q);
+  are = sound.are;
+}
+
+-- files that are all on the disk hold what they read
+settled_still : (slot : Option File) (n : Name) (c : Option (List ℕ)) → IsSettled slot → IsFormedAs n (bytes_in slot) → IsImageOf slot c → HasContent n c (content_of (bytes_in slot))
+settled_still None n None all formed image = record { is = refl; formed = tt }
+settled_still None n (Some b) all formed image = absurd image
+settled_still (Some f) n None all formed image = absurd image
+settled_still (Some f) n (Some b) all formed image =
+    let same : b ≡ f.reads = settled_only f.reads b (subst (λ (g : File). IsImageOf (Some g) (Some b)) (all f refl) image) in
+    subst (λ (l : List ℕ). HasContent n (Some l) (content_of (Some f.reads))) (sym same) (record { is = refl; formed = formed })
+
+settled_holds : (files : Name → Option File) (lines : ℕ → List Message) → ((n : Name) → IsSettled (files n)) → SoundBy (as_read files) lines → StillHolds files lines
+settled_holds files lines all sound = record {
+  contents = contents_of (as_read files);
+  still = record { each = λ n c image. settled_still (files n) n c (all n) (sound.formed n) image };
+  holds = sound.held;
+  are = sound.are;
+}
+
+pub now_holds : {E : Type 0} (T One : Type 0) (result : Result FoundQueue E) (files : Name → Option File) → IfOk result (λ found. T → One → SoundBy (as_read files) (λ q. opened_in q found.lines)) → OnOk result (T → (n : Name) → IsSettled (files n))
+    → IfOk result (λ found. T → One → StillHolds files (λ q. opened_in q found.lines))
+now_holds T One (Ok found) files sound all = λ told one. settled_holds files (λ q. opened_in q found.lines) (all told) (sound told one)
+now_holds T One (Err e) files sound all = tt
+
+-- what a crash leaves, with or without stray small stores
+module _ (files : Name → Option File) (lines : ℕ → List Message) (holds : StillHolds files lines) (image : Image) (is : IsImageOrWithout files image) where
+  nothing : (n : Name) → files n ≡ None → holds.contents n ≡ []
+  nothing n none = sym (holds.still.each n None (subst (λ (o : Option File). IsImageOf o None) (sym none) tt)).is
+
+  pub left_sound : SoundBy image lines
+  left_sound = record {
+    formed = λ n. ⊎_elim (λ there. (holds.still.each n (image n) there).formed) (λ gone. subst (IsFormedAs n) (sym gone.1) tt) (is n);
+    held = λ q. less_holds holds.contents (contents_of image)
+        (λ n. ⊎_elim (λ there. inl (holds.still.each n (image n) there).is) (λ gone. inr (gone.0.kind, nothing (index_name n.queue n.number) gone.0.alone)) (is n)) q (lines q) (holds.holds q);
+    are = holds.are;
+  }

@@ -1,0 +1,53 @@
+use Rattle.std.proofs.Common.{◌+◌, ℕ, Option, ◌∙◌, sym, subst, arith}
+use Rattle.cq_disk.specs.declared.name.Name.{Name}
+use Rattle.cq_disk.specs.File.{File}
+use Rattle.cq_disk.specs.Call.{BeforeFuse}
+use Rattle.cq_disk.specs.Moments.{quiet_then}
+use Rattle.cq_held.specs.Held.{as_read, contents_of}
+use Rattle.cq_back.specs.Folder.{index_file, file_bytes}
+use Rattle.cq_back.specs.Read.{IsRead, BreaksFirst}
+use Rattle.cq_back.proofs.Opening.{same_files, damaged_to, err_of}
+use Rattle.cq_back.proofs.messages.read_messages.Goals as goal
+
+pub returns-in-Err-clause-damaged : goal.returns-in-Err-clause-damaged
+returns-in-Err-clause-damaged g c =
+    let d = g.D.Disk in
+    let i = c.loop-at in
+    damaged_to c.in-Err.error _ _ (λ name place found broken told.
+    subst (λ (fs : Name → Option File). IsRead (contents_of (as_read fs)) (file_bytes (fs index_file)) i.at i.held.items i.lines → BreaksFirst (contents_of (as_read fs)) (file_bytes (fs index_file)) name place found)
+    (same_files (d.files c.args.disk.now) (d.files i.disk) (i.invariant.files told)) (broken told) (i.invariant.read told)) c.in-Err.ensures.damaged
+
+pub returns-in-Err-clause-any_moment : goal.returns-in-Err-clause-any_moment
+returns-in-Err-clause-any_moment g c = λ told.
+    let d = g.D.Disk in
+    let i = c.loop-at in
+    quiet_then d.moment d.left d.files (g.met.D.Disk.now_only told) c.args.disk.now i.disk c.read_next.new.disk (i.invariant.run told) (i.invariant.files told) (c.in-Err.ensures.any_moment told)
+
+pub returns-in-Err-clause-strike : goal.returns-in-Err-clause-strike
+returns-in-Err-clause-strike g c =
+    let d = g.D.Disk in
+    let i = c.loop-at in
+    let s = c.in-Err.ensures.strike in
+    record {
+      later = omega (arith, s.later, i.invariant.struck);
+      failed = λ is before. let rose = s.failed (err_of _ c.in-Err.error is) (subst (λ (f : Option ℕ). BeforeFuse f (d.moment c.read_next.new.disk)) (sym i.invariant.plan.0) before) in omega (arith, rose, i.invariant.struck);
+    }
+
+pub loop-at-preserved : goal.loop-at-preserved
+loop-at-preserved g c =
+    let d = g.D.Disk in
+    let i = c.loop-at in
+    let e = c.in-Ok.ensures in
+    let new = c.read_next.new in
+    record {
+      read = λ told. subst (λ (fs : Name → Option File). IsRead (contents_of (as_read fs)) (file_bytes (fs index_file)) i.at i.held.items i.lines → IsRead (contents_of (as_read fs)) (file_bytes (fs index_file)) (i.at + 1) new.held.items new.lines)
+          (same_files (d.files c.args.disk.now) (d.files i.disk) (i.invariant.files told)) (e.read told) (i.invariant.read told);
+      segment = e.same ∙ i.invariant.segment;
+      small = e.same_small ∙ i.invariant.small;
+      files = λ told n. e.files told n ∙ i.invariant.files told n;
+      run = λ told. quiet_then d.moment d.left d.files (g.met.D.Disk.now_only told) c.args.disk.now i.disk new.disk (i.invariant.run told) (i.invariant.files told) (e.any_moment told);
+      moment = omega (arith, e.later, i.invariant.moment);
+      faults = omega (arith, e.cause.later, i.invariant.faults);
+      struck = omega (arith, e.strike.later, i.invariant.struck);
+      plan = (e.plan.fuse ∙ i.invariant.plan.0, e.plan.planned ∙ i.invariant.plan.1);
+    }

@@ -1,0 +1,24 @@
+use Rattle.std.proofs.Common.{◌≡◌, ◌≤◌}
+use Rattle.cq_disk.specs.Files.{IsImage, SameFiles}
+use Rattle.cq_disk.specs.Call.{LeavesOnly}
+use Rattle.cq_held.specs.Held.{as_read, contents_of}
+use Rattle.cq_back.specs.Folder.{index_file, file_bytes}
+use Rattle.cq_back.specs.Read.{gate_in, IsRead}
+use Rattle.cq_back.proofs.messages.read_messages.Given as goal
+
+abbrev pub invariant-loop-at : goal.invariant-loop-at
+invariant-loop-at g l =
+    let d = g.D.Disk in
+    let start = l.fn.disk in
+    let now = l.disk in
+    record {
+      read : d.tells → IsRead (contents_of (as_read (d.files start))) (file_bytes (d.files start index_file)) l.at l.held.items l.lines;
+      segment : l.segment ≡ l.fn.segment;
+      small : gate_in l.small ≡ gate_in l.fn.small;
+      files : d.tells → SameFiles (d.files start) (d.files now);
+      run : d.tells → LeavesOnly d.moment d.left start now (IsImage (d.files start));
+      moment : d.moment start ≤ d.moment now;
+      faults : d.faults start ≤ d.faults now;
+      struck : d.struck start ≤ d.struck now;
+      plan : (d.fuse now ≡ d.fuse start) × (d.planned now ≡ d.planned start);
+    }

@@ -1,0 +1,21 @@
+use Rattle.cq_disk.specs.Moments.{weaken}
+use Rattle.cq_held.specs.Steady.{SoundBy}
+use Rattle.cq_back.specs.Folder.{IsImageOrWithout}
+use Rattle.cq_held.specs.Held.{as_read}
+use Rattle.cq_back.proofs.Opening.{if_err, damaged_to}
+use Rattle.cq_back.proofs.Refused.{not_sound}
+use Rattle.cq_back.proofs.Stray.{now_holds, left_sound}
+use Rattle.cq_back.proofs.open.open_folder.Goals as goal
+
+pub returns-clause-now : goal.returns-clause-now
+returns-clause-now g c = now_holds _ _ c.open_queue.result (g.D.Disk.files c.open_queue.new.disk) c.open_queue.ensures.now c.open_queue.ensures.settled
+
+pub returns-clause-meanwhile : goal.returns-clause-meanwhile
+returns-clause-meanwhile g c = λ told lines holds.
+    let d = g.D.Disk in
+    let old = d.files c.args.disk.now in
+    weaken d.moment d.left d.files (g.met.D.Disk.now_only told) c.args.disk.now c.open_queue.new.disk (IsImageOrWithout old) (λ image. SoundBy image lines) (left_sound old lines holds) (c.open_queue.ensures.any_moment told)
+
+pub returns-clause-refuses : goal.returns-clause-refuses
+returns-clause-refuses g c = if_err c.open_queue.result _ _
+    (λ error broken. damaged_to error _ _ (λ name place found b told short lines. not_sound (as_read (g.D.Disk.files c.args.disk.now)) lines name place found short (b told)) broken) c.open_queue.ensures.damaged

@@ -1,0 +1,119 @@
+// One entry, and the record of its message.
+ghost use Rattle.std.specs.Prelude.{◌≡◌, ◌≤◌, ◌<◌, ◌+◌, MatchOption, IfOk, IfErr, OnOk, slice_index};
+ghost use Rattle.cq_disk.specs.Files.{IsImage, SameFiles};
+ghost use Rattle.cq_disk.specs.Call.{LeavesOnly, CausedOf, StruckByOf, KeepsPlan};
+ghost use Rattle.cq_entry.specs.Entry.{IsEntry, IsPresent, entry_bytes};
+ghost use Rattle.cq_index.specs.Places.{entry_at, place_of};
+ghost use Rattle.cq_held.specs.Held.{as_read, contents_of};
+ghost use Rattle.cq_back.specs.declared.error.BackError.TheVariants.{Fault as back_fault, Damaged};
+ghost use Rattle.cq_back.specs.Folder.{index_file, small_file, file_bytes};
+ghost use Rattle.cq_back.specs.Read.{holds_id, gate_in, IsSmallOf, IsLacking, IsBodyAt, Takes, Breaks, IfDamaged};
+
+use crate::error::BackError;
+use crate::files::INDEX;
+use crate::found::HeldEntry;
+use cq_bytes::Body;
+use cq_disk::Disk;
+use cq_entry::{Entry, EntryKind, encode};
+use cq_journal::Lines;
+use cq_small::SmallStore;
+use std::alloc::Global;
+
+/// Takes a present entry and its message in. `Damaged` exactly where the entry doesn't fit what is held, or the store.
+pub(crate) fn take_in<D: Disk>(
+    alloc: Global,
+    disk: &mut D,
+    small: &mut Option<SmallStore>,
+    at: u32,
+    entry: Entry,
+    held: &mut Vec<HeldEntry>,
+    lines: &mut Lines,
+) -> Result<(), BackError>
+    requires valid { IsEntry entry }
+    requires few { at < 4096 }
+    requires present { D.tells → IsPresent (entry_at (file_bytes (D.files disk.old index_file)) at) entry }
+    requires small { D.tells → IsSmallOf (gate_in small.old) (D.files disk.old small_file) }
+    ensures ok { OnOk result (D.tells → Takes (contents_of (as_read (D.files disk.old)) small_file) at entry held.old.items held.new.items lines.old lines.new) }
+    ensures damaged { IfErr result (λ error. IfDamaged error (λ name place found. D.tells → Breaks (contents_of (as_read (D.files disk.old)) small_file) (file_bytes (D.files disk.old index_file)) held.old.items at entry name place found)) }
+    ensures same { gate_in small.new ≡ gate_in small.old }
+    ensures files { D.tells → SameFiles (D.files disk.old) (D.files disk.new) }
+    ensures any_moment { D.tells → LeavesOnly D.moment D.left disk.old disk.new (IsImage (D.files disk.old)) }
+    ensures cause { CausedOf back_fault (D.faults disk.old) (D.faults disk.new) result }
+    ensures later { D.moment disk.old ≤ D.moment disk.new }
+    ensures strike { StruckByOf back_fault (D.fuse disk.old) (D.moment disk.new) (D.struck disk.old) (D.struck disk.new) result }
+    ensures plan { KeepsPlan (D.fuse disk.old) (D.planned disk.old) (D.fuse disk.new) (D.planned disk.new) }
+{
+    if stands(held, entry.id) {
+        return Err(broken(&entry, at, 8));
+    }
+    if entry.kind == EntryKind::Shared {
+        return Err(broken(&entry, at, 1));
+    }
+    let Some(body) = body_of(alloc, disk, small, entry.place, entry.len)? else {
+        return Err(broken(&entry, at, 24));
+    };
+    held.push(HeldEntry {
+        queue: 0,
+        segment: 0,
+        at,
+        entry,
+    })?;
+    lines.push(0, entry.id, body)?;
+    Ok(())
+}
+
+/// Whether an entry with this id is held.
+fn stands(held: &[HeldEntry], id: u128) -> bool
+    ensures { result ≡ holds_id held.now id }
+{
+    held.iter().any(|one| one.entry.id == id)
+}
+
+/// The entry at a place doesn't fit, for its field that begins at this byte.
+fn broken(entry: &Entry, at: u32, byte: u8) -> BackError
+    requires valid { IsEntry entry.now }
+    requires few { at < 4096 }
+    requires inside { byte < 32 }
+    ensures { result ≡ Damaged index_file (place_of at + byte) (slice_index (entry_bytes entry.now) byte) }
+{
+    BackError::Damaged {
+        name: INDEX,
+        place: 128 + 32 * at as u64 + byte as u64,
+        found: encode(entry)[byte as usize],
+    }
+}
+
+/// The body of the record at a place. `None` exactly where no record of this length stands there.
+fn body_of<D: Disk>(
+    alloc: Global,
+    disk: &mut D,
+    small: &mut Option<SmallStore>,
+    place: u64,
+    len: u32,
+) -> Result<Option<Body>, BackError>
+    requires short { len ≤ 1048576 }
+    requires small { D.tells → IsSmallOf (gate_in small.old) (D.files disk.old small_file) }
+    ensures body { IfOk result (λ body. D.tells → MatchOption body (IsLacking (contents_of (as_read (D.files disk.old)) small_file) place len) (λ b. IsBodyAt (contents_of (as_read (D.files disk.old)) small_file) place len b)) }
+    ensures sound { IfErr result (λ error. IfDamaged error (λ name place found. ⊥)) }
+    ensures same { gate_in small.new ≡ gate_in small.old }
+    ensures files { D.tells → SameFiles (D.files disk.old) (D.files disk.new) }
+    ensures any_moment { D.tells → LeavesOnly D.moment D.left disk.old disk.new (IsImage (D.files disk.old)) }
+    ensures cause { CausedOf back_fault (D.faults disk.old) (D.faults disk.new) result }
+    ensures later { D.moment disk.old ≤ D.moment disk.new }
+    ensures strike { StruckByOf back_fault (D.fuse disk.old) (D.moment disk.new) (D.struck disk.old) (D.struck disk.new) result }
+    ensures plan { KeepsPlan (D.fuse disk.old) (D.planned disk.old) (D.fuse disk.new) (D.planned disk.new) }
+{
+    let Some(store) = small else {
+        return Ok(None);
+    };
+    let size = len as u64 + 5;
+    if store.len() < size || store.len() - size < place {
+        return Ok(None);
+    }
+    if !store.whole(disk, place, len)? {
+        return Ok(None);
+    }
+    let mut bytes = vec![in alloc; 0; len as usize]?;
+    store.read(disk, place, &mut bytes)?;
+    Ok(Some(Body::from_vec(bytes)))
+}

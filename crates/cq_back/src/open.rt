@@ -1,0 +1,150 @@
+// The opening of a folder.
+ghost use Rattle.std.specs.Prelude.{ℕ, List, ◌≡◌, ◌≤◌, ◌↔◌, true, false, None, IfOk, IfErr, OnOk};
+ghost use Rattle.cq_disk.specs.declared.name.Name.{Name};
+ghost use Rattle.cq_disk.specs.Files.{HasFile, IsImage, SameFiles};
+ghost use Rattle.cq_disk.specs.Call.{LeavesOnly, Caused, CausedOf, StruckBy, StruckByOf, KeepsPlan};
+ghost use Rattle.cq_journal.specs.declared.event.Message.{Message};
+ghost use Rattle.cq_journal.specs.History.{opened_in};
+ghost use Rattle.cq_journal.specs.Legal.{AreLines};
+ghost use Rattle.cq_held.specs.Held.{as_read};
+ghost use Rattle.cq_held.specs.Steady.{SoundBy};
+ghost use Rattle.cq_index.specs.Segments.{name_of, IsSegment};
+ghost use Rattle.cq_back.specs.declared.error.BackError.TheVariants.{Fault as back_fault};
+ghost use Rattle.cq_back.specs.Folder.{index_file, small_file, IsOneQueue, IsSettled, IsShort, ReadsSame, IsImageOrWithout, IsWithoutStray, StillHolds};
+ghost use Rattle.cq_back.specs.Read.{IsSmallOf, gate_in, AreHeld, IfDamaged};
+ghost use Rattle.cq_back.specs.Found.{BreaksFolder};
+
+use crate::error::BackError;
+use crate::files::{INDEX, SMALL, open_index, open_small};
+use crate::found::FoundQueue;
+use crate::messages::read_messages;
+use crate::sync::sync_all;
+use cq_disk::{Disk, Fault};
+use std::alloc::Global;
+
+/// Opens a folder that has at most the two files of one segment of queue 0: syncs every file, reads the segment, its small
+/// store and each message, and removes a small store whose index isn't there.
+///
+/// `Damaged` tells the first rule that the folder breaks; then it isn't sound. Until then it only syncs and reads.
+pub fn open_folder<D: Disk>(alloc: Global, disk: &mut D) -> Result<FoundQueue, BackError>
+    // In a folder with no other file, the files held exactly these messages of each queue, in order.
+    ensures ok { IfOk result (λ found. D.tells → IsOneQueue (D.files disk.old) → SoundBy (as_read (D.files disk.old)) (λ q. opened_in q found.lines)) }
+    // They still do, in whatever a crash leaves.
+    ensures now { IfOk result (λ found. D.tells → IsOneQueue (D.files disk.old) → StillHolds (D.files disk.new) (λ q. opened_in q found.lines)) }
+    // Each with its entry.
+    ensures held { IfOk result (λ found. D.tells → AreHeld (as_read (D.files disk.old)) found.held.items found.lines) }
+    ensures lines { IfOk result (λ found. D.tells → AreLines found.lines) }
+    ensures settled { OnOk result (D.tells → (n : Name) → IsSettled (D.files disk.new n)) }
+    ensures name { IfOk result (λ found. name_of found.segment ≡ index_file) }
+    ensures segment { IfOk result (λ found. D.tells → IsSegment found.segment (D.files disk.new index_file)) }
+    ensures small { IfOk result (λ found. D.tells → IsSmallOf (gate_in found.small) (D.files disk.new small_file)) }
+    ensures damaged { IfErr result (λ error. IfDamaged error (λ name place found. D.tells → BreaksFolder (as_read (D.files disk.old)) name place found)) }
+    // Such a folder isn't sound, at least where its index has no more entries than a segment may have.
+    ensures refuses { IfErr result (λ error. IfDamaged error (λ name place found. D.tells → IsShort (D.files disk.old) → (lines : ℕ → List Message) → SoundBy (as_read (D.files disk.old)) lines → ⊥)) }
+    // Without a fault an error comes before anything else than syncs and reads was done.
+    ensures reads { IfErr result (λ error. D.tells → (error ≡ back_fault → ⊥) → ReadsSame (D.files disk.old) (D.files disk.new)) }
+    ensures only_reads { IfErr result (λ error. D.tells → (error ≡ back_fault → ⊥) → LeavesOnly D.moment D.left disk.old disk.new (IsImage (D.files disk.old))) }
+    // A crash at any moment leaves what it could have left before, with the small store that was to be removed or without.
+    ensures any_moment { D.tells → LeavesOnly D.moment D.left disk.old disk.new (IsImageOrWithout (D.files disk.old)) }
+    // If that held some messages before, it holds them, whichever the answer.
+    ensures meanwhile { D.tells → (lines : ℕ → List Message) → StillHolds (D.files disk.old) lines → LeavesOnly D.moment D.left disk.old disk.new (λ image. SoundBy image lines) }
+    ensures cause { CausedOf back_fault (D.faults disk.old) (D.faults disk.new) result }
+    ensures later { D.moment disk.old ≤ D.moment disk.new }
+    ensures strike { StruckByOf back_fault (D.fuse disk.old) (D.moment disk.new) (D.struck disk.old) (D.struck disk.new) result }
+    ensures plan { KeepsPlan (D.fuse disk.old) (D.planned disk.old) (D.fuse disk.new) (D.planned disk.new) }
+{
+    open_queue(alloc, disk)
+}
+
+/// Syncs every file, reads the queue's files, and removes a stray small store.
+fn open_queue<D: Disk>(alloc: Global, disk: &mut D) -> Result<FoundQueue, BackError>
+    ensures ok { IfOk result (λ found. D.tells → IsOneQueue (D.files disk.old) → SoundBy (as_read (D.files disk.old)) (λ q. opened_in q found.lines)) }
+    ensures now { IfOk result (λ found. D.tells → IsOneQueue (D.files disk.old) → SoundBy (as_read (D.files disk.new)) (λ q. opened_in q found.lines)) }
+    ensures held { IfOk result (λ found. D.tells → AreHeld (as_read (D.files disk.old)) found.held.items found.lines) }
+    ensures lines { IfOk result (λ found. D.tells → AreLines found.lines) }
+    ensures settled { OnOk result (D.tells → (n : Name) → IsSettled (D.files disk.new n)) }
+    ensures name { IfOk result (λ found. name_of found.segment ≡ index_file) }
+    ensures segment { IfOk result (λ found. D.tells → IsSegment found.segment (D.files disk.new index_file)) }
+    ensures small { IfOk result (λ found. D.tells → IsSmallOf (gate_in found.small) (D.files disk.new small_file)) }
+    ensures damaged { IfErr result (λ error. IfDamaged error (λ name place found. D.tells → BreaksFolder (as_read (D.files disk.old)) name place found)) }
+    ensures reads { IfErr result (λ error. D.tells → (error ≡ back_fault → ⊥) → ReadsSame (D.files disk.old) (D.files disk.new)) }
+    ensures only_reads { IfErr result (λ error. D.tells → (error ≡ back_fault → ⊥) → LeavesOnly D.moment D.left disk.old disk.new (IsImage (D.files disk.old))) }
+    ensures any_moment { D.tells → LeavesOnly D.moment D.left disk.old disk.new (IsImageOrWithout (D.files disk.old)) }
+    ensures cause { CausedOf back_fault (D.faults disk.old) (D.faults disk.new) result }
+    ensures later { D.moment disk.old ≤ D.moment disk.new }
+    ensures strike { StruckByOf back_fault (D.fuse disk.old) (D.moment disk.new) (D.struck disk.old) (D.struck disk.new) result }
+    ensures plan { KeepsPlan (D.fuse disk.old) (D.planned disk.old) (D.fuse disk.new) (D.planned disk.new) }
+{
+    let names = match sync_all(alloc, disk) {
+        Ok(names) => names,
+        Err(error) => return Err(error),
+    };
+    let index = names.contains(&INDEX);
+    let store = names.contains(&SMALL);
+    let mut found = match read_queue(alloc, disk, index, store) {
+        Ok(found) => found,
+        Err(error) => return Err(error),
+    };
+    match drop_stray(disk, &mut found, index) {
+        Ok(()) => Ok(found),
+        Err(Fault) => Err(BackError::Fault),
+    }
+}
+
+/// Reads the segment and the small store, of which it is told whether they are there, and each message.
+fn read_queue<D: Disk>(
+    alloc: Global,
+    disk: &mut D,
+    index: bool,
+    store: bool,
+) -> Result<FoundQueue, BackError>
+    requires index { D.tells → (index ≡ true) ↔ HasFile (D.files disk.old index_file) }
+    requires store { D.tells → (store ≡ true) ↔ HasFile (D.files disk.old small_file) }
+    requires settled { D.tells → (n : Name) → IsSettled (D.files disk.old n) }
+    ensures sound { IfOk result (λ found. D.tells → IsOneQueue (D.files disk.old) → SoundBy (as_read (D.files disk.old)) (λ q. opened_in q found.lines)) }
+    ensures held { IfOk result (λ found. D.tells → AreHeld (as_read (D.files disk.old)) found.held.items found.lines) }
+    ensures lines { IfOk result (λ found. D.tells → AreLines found.lines) }
+    ensures name { IfOk result (λ found. name_of found.segment ≡ index_file) }
+    ensures segment { IfOk result (λ found. D.tells → IsSegment found.segment (D.files disk.old index_file)) }
+    ensures small { IfOk result (λ found. D.tells → IsSmallOf (gate_in found.small) (D.files disk.old small_file)) }
+    ensures damaged { IfErr result (λ error. IfDamaged error (λ name place found. D.tells → BreaksFolder (as_read (D.files disk.old)) name place found)) }
+    ensures files { D.tells → SameFiles (D.files disk.old) (D.files disk.new) }
+    ensures any_moment { D.tells → LeavesOnly D.moment D.left disk.old disk.new (IsImage (D.files disk.old)) }
+    ensures cause { CausedOf back_fault (D.faults disk.old) (D.faults disk.new) result }
+    ensures later { D.moment disk.old ≤ D.moment disk.new }
+    ensures strike { StruckByOf back_fault (D.fuse disk.old) (D.moment disk.new) (D.struck disk.old) (D.struck disk.new) result }
+    ensures plan { KeepsPlan (D.fuse disk.old) (D.planned disk.old) (D.fuse disk.new) (D.planned disk.new) }
+{
+    let mut segment = open_index(alloc, disk, index)?;
+    let mut small = open_small(disk, store)?;
+    match read_messages(alloc, disk, &mut segment, &mut small) {
+        Ok((held, lines)) => Ok(FoundQueue {
+            segment,
+            small,
+            held,
+            lines,
+        }),
+        Err(error) => Err(error),
+    }
+}
+
+/// Removes the small store where its index isn't there.
+fn drop_stray<D: Disk>(disk: &mut D, found: &mut FoundQueue, index: bool) -> Result<(), Fault>
+    requires index { D.tells → index ≡ false → D.files disk.old index_file ≡ None }
+    requires small { D.tells → IsSmallOf (gate_in found.old.small) (D.files disk.old small_file) }
+    ensures ok { OnOk result (D.tells → IsWithoutStray (D.files disk.old) (D.files disk.new)) }
+    ensures small { OnOk result (D.tells → IsSmallOf (gate_in found.new.small) (D.files disk.new small_file)) }
+    ensures same { (found.new.segment ≡ found.old.segment) × (found.new.held ≡ found.old.held) × (found.new.lines ≡ found.old.lines) }
+    ensures any_moment { D.tells → LeavesOnly D.moment D.left disk.old disk.new (IsImageOrWithout (D.files disk.old)) }
+    ensures cause { Caused (D.faults disk.old) (D.faults disk.new) result }
+    ensures later { D.moment disk.old ≤ D.moment disk.new }
+    ensures strike { StruckBy (D.fuse disk.old) (D.moment disk.new) (D.struck disk.old) (D.struck disk.new) result }
+    ensures plan { KeepsPlan (D.fuse disk.old) (D.planned disk.old) (D.fuse disk.new) (D.planned disk.new) }
+{
+    if index || found.small.is_none() {
+        return Ok(());
+    }
+    disk.remove(SMALL)?;
+    found.small = None;
+    Ok(())
+}
