@@ -10,7 +10,7 @@ use Rattle.cq_journal.specs.declared.session.Session.{Session}
 use Rattle.cq_disk.specs.declared.name.Name.{Name}
 use Rattle.cq_disk.specs.File.{File}
 use Rattle.cq_held.specs.Held.{as_read, Held}
-use Rattle.cq_held.specs.Steady.{Steady}
+use Rattle.cq_held.specs.Steady.{Agrees, Steady}
 use Rattle.cq_journal.specs.Asks.{asks}
 use Rattle.cq_journal.specs.Confirms.{AreConfirmed}
 use Rattle.cq_journal.specs.History.{line}
@@ -69,6 +69,12 @@ FirstHeld files (s ∷ sessions) = Held (as_read files) (line s.journal.entries)
 abbrev pub AreSteady : (ℕ → ℕ → Image → Type 0) → ℕ → List Session → Type 0
 AreSteady left moment [] = Unit {0}
 AreSteady left moment (s ∷ sessions) = Steady left moment s.journal.entries
+
+-- where there is a session, the image agrees with the journal of the last one
+abbrev pub LastAgrees : Image → List Session → Type 0
+LastAgrees image [] = Unit {0}
+LastAgrees image (s ∷ []) = Agrees image s.journal.entries
+LastAgrees image (s ∷ t ∷ sessions) = LastAgrees image (t ∷ sessions)
 
 -- one client's requests, publishes to queue 0 and gets of it, of which few are publishes
 abbrev pub IsRight : List (List Request) → Type 0

@@ -3,7 +3,8 @@ ghost use Rattle.std.specs.Prelude.{◌≡◌, ◌≢◌, ◌≤◌, ◌++◌, �
 ghost use Rattle.std.specs.List.{list_all};
 ghost use Rattle.cq_disk.specs.declared.name.Name.{Name};
 ghost use Rattle.cq_disk.specs.Rose.{Rose};
-ghost use Rattle.cq_disk.specs.Call.{CausedOf, StruckByOf, KeepsPlan};
+ghost use Rattle.cq_disk.specs.Files.{IsImage};
+ghost use Rattle.cq_disk.specs.Call.{Image, CausedOf, StruckByOf, KeepsPlan};
 ghost use Rattle.cq_inbox.specs.Requests.{publishes};
 ghost use Rattle.cq_io.specs.Streams.{Adds};
 ghost use Rattle.cq_journal.specs.Legal.{Legal};
@@ -12,9 +13,9 @@ ghost use Rattle.cq_node.specs.Waiting.{is_servable};
 ghost use Rattle.cq_print.specs.Text.{text_of};
 ghost use Rattle.cq_script.specs.Scripts.{KeepsLimits};
 ghost use Rattle.cq_held.specs.Held.{as_read, Held};
-ghost use Rattle.cq_held.specs.Steady.{Steady};
+ghost use Rattle.cq_held.specs.Steady.{Agrees, Steady};
 ghost use Rattle.cq_journal.specs.History.{line};
-ghost use Rattle.cq_replay.specs.Played.{AreLegal, FirstText, IsRight, Ended, IfFailed, Serves, ServesAll, AreServing, FirstServesAll, FirstHeld, AreSteady};
+ghost use Rattle.cq_replay.specs.Played.{AreLegal, FirstText, IsRight, Ended, IfFailed, Serves, ServesAll, AreServing, FirstServesAll, FirstHeld, AreSteady, LastAgrees};
 ghost use Rattle.cq_replay.specs.Running.{IsFresh};
 
 use crate::player::Player;
@@ -64,6 +65,7 @@ pub fn play<C: Disk, W: Sink>(alloc: Global, script: Script, scratch: C, sink: &
     ensures held { result.ending ≡ Ending.Served → C.tells → FirstHeld (C.files result.scratch) result.sessions.items }
     // A crash at any moment has left, and leaves now, what agrees with the journal, whatever the ending.
     ensures steady { C.tells → AreSteady (C.left result.scratch) (C.moment result.scratch) result.sessions.items }
+    ensures agrees { C.tells → (image : Image) → IsImage (C.files result.scratch) image → LastAgrees image result.sessions.items }
     // A fault is answered only where one came.
     ensures later { C.faults scratch ≤ C.faults result.scratch }
     ensures failed { Ended result.ending (C.faults scratch) (C.faults result.scratch) (C.fuse scratch) (C.moment result.scratch) (C.struck scratch) (C.struck result.scratch) }
@@ -159,6 +161,7 @@ fn serve<C: Disk, W: Sink>(
     ensures text { result.0 ≡ Ending.Served → Adds (W.pieces sink.old) (W.pieces sink.new) (text_of 0 result.1.journal.entries []) }
     ensures cut { result.1.cut.items ≡ [] }
     ensures steady { C.tells → Steady (C.left result.2) (C.moment result.2) result.1.journal.entries }
+    ensures agrees { C.tells → (image : Image) → IsImage (C.files result.2) image → Agrees image result.1.journal.entries }
     ensures later { C.faults player.node.store.disk ≤ C.faults result.2 }
     ensures failed { Ended result.0 (C.faults player.node.store.disk) (C.faults result.2) (C.fuse player.node.store.disk) (C.moment result.2) (C.struck player.node.store.disk) (C.struck result.2) }
     ensures output { result.0 ≡ Ending.Output → Rose (W.faults sink.old) (W.faults sink.new) }

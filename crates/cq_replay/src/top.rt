@@ -3,11 +3,12 @@ ghost use Rattle.std.specs.Prelude.{◌≡◌, ◌≤◌, ◌++◌, ◌∷◌, [
 ghost use Rattle.std.specs.Io.KnownBytes.{IsAtEnd};
 ghost use Rattle.cq_disk.specs.declared.name.Name.{Name};
 ghost use Rattle.cq_disk.specs.Rose.{Rose};
-ghost use Rattle.cq_disk.specs.Call.{BeforeFuse};
+ghost use Rattle.cq_disk.specs.Files.{IsImage};
+ghost use Rattle.cq_disk.specs.Call.{Image, BeforeFuse};
 ghost use Rattle.cq_io.specs.Streams.{Adds};
 ghost use Rattle.cq_script.specs.Scripts.{KeepsLimits};
 ghost use Rattle.cq_replay.specs.Words.{IsCommand};
-ghost use Rattle.cq_replay.specs.Played.{AreLegal, AreServing, FirstServesAll, FirstHeld, AreSteady};
+ghost use Rattle.cq_replay.specs.Played.{AreLegal, AreServing, FirstServesAll, FirstHeld, AreSteady, LastAgrees};
 ghost use Rattle.cq_replay.specs.Outcomes.{AgreesWithWords, AgreesWithInput, IsOfForm, IsRefusal, IsEnding, StatusOf, TextAndOk, SaysScript, AreServingInput, ServesAllOf};
 
 use crate::input::{InputError, read_input};
@@ -50,6 +51,7 @@ pub fn offline<S: Source, C: Disk, W: Sink>(
     // Whatever the status, a crash at any moment has left, and leaves now, a folder that agrees with the journal: it is
     // sound, and what it holds is what the journal allows to hold.
     ensures steady { C.tells → AreSteady (C.left result.scratch) (C.moment result.scratch) result.sessions.items }
+    ensures agrees { C.tells → (image : Image) → IsImage (C.files result.scratch) image → LastAgrees image result.sessions.items }
 
     // A fault is answered only where one came in this call.
     ensures disk { result.status ≡ Status.DiskFault → Rose (C.faults scratch) (C.faults result.scratch) }
@@ -118,6 +120,7 @@ fn served<C: Disk, W: Sink>(alloc: Global, script: Script, scratch: C, sink: &mu
     ensures served { result.status ≡ Status.Ok → FirstServesAll script.streams script.steps result.sessions.items }
     ensures held { result.status ≡ Status.Ok → C.tells → FirstHeld (C.files result.scratch) result.sessions.items }
     ensures steady { C.tells → AreSteady (C.left result.scratch) (C.moment result.scratch) result.sessions.items }
+    ensures agrees { C.tells → (image : Image) → IsImage (C.files result.scratch) image → LastAgrees image result.sessions.items }
     ensures disk { result.status ≡ Status.DiskFault → Rose (C.faults scratch) (C.faults result.scratch) }
     ensures struck { result.status ≡ Status.DiskFault → BeforeFuse (C.fuse scratch) (C.moment result.scratch) → Rose (C.struck scratch) (C.struck result.scratch) }
     ensures output { result.status ≡ Status.OutputFault → Rose (W.faults sink.old) (W.faults sink.new) }

@@ -1,11 +1,12 @@
-use Rattle.std.proofs.Common.{◌≡◌, ◌++◌, length, Ok, sym, ap, ◌∙◌, subst}
+use Rattle.std.proofs.Common.{◌≡◌, ◌<◌, ◌++◌, length, arith, length-append, Ok, sym, ap, ◌∙◌, subst}
 use Rattle.cq_held.specs.Held.{as_read, Held}
 use Rattle.cq_journal.specs.Asks.{asks}
 use Rattle.cq_journal.specs.Confirms.{AreConfirmed}
 use Rattle.cq_journal.specs.History.{line}
 use Rattle.cq_replay.specs.Done.{DoesWords}
 use Rattle.cq_replay.proofs.Moves.{at_ok}
-use Rattle.cq_replay.proofs.Served.{asked_first, asked_all}
+use Rattle.cq_replay.proofs.Served.{asked_first, asked_all, agrees_now}
+use Rattle.cq_held.proofs.Kept.{keeps_steady}
 use Rattle.cq_replay.proofs.Endings.{ended}
 use Rattle.cq_replay.proofs.playing.serve.Goals as goal
 
@@ -52,3 +53,11 @@ returns-clause-held g c = λ ending told.
     let held = at_ok c.serve-served.result ok c.serve-served.ensures.held told in
     subst (λ l. Held (as_read (g.C.Disk.files c.release-disk.result.disk)) (line l)) (sym c.release-disk.ensures.journal)
     (subst (λ disk. Held (as_read (g.C.Disk.files disk)) (line b.node.core.entries)) (sym c.release-disk.ensures.disk) held)
+
+pub returns-clause-agrees : goal.returns-clause-agrees
+returns-clause-agrees g c = λ told image is.
+    let d = g.C.Disk in
+    let moves = c.serve-served.ensures.moves in
+    let some : 0 < length c.release-disk.result.journal.entries = omega (arith, ap length (c.release-disk.ensures.journal ∙ moves.is), length-append moves.added c.args.player.node.core.entries, ap length c.requires.fresh.opened) in
+    agrees_now d.moment d.left d.files (keeps_steady d.moment d.left d.files (g.met.C.Disk.now_only told) (g.met.C.Disk.now_each told) (g.met.C.Disk.reads_left told)) c.release-disk.result.disk c.release-disk.result.journal.entries some
+    (c.release-disk.ensures.steady told) image is
