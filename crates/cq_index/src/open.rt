@@ -36,6 +36,7 @@ impl Segment {
     ) -> Result<Segment, SegmentError>
         requires { D.tells → IsSome (D.files disk.old (index_name queue number)) }
         ensures name { IfOk result (λ segment. name_of segment ≡ index_name queue number) }
+        ensures open { IfOk result IsOpen }
         ensures shown { IfOk result (λ segment. D.tells → IsThere (D.files disk.old (index_name queue number)) (Knows segment)) }
         // Where nothing waits for a sync, the file is as the segment's own calls leave it.
         ensures segment { IfOk result (λ segment. D.tells → IsThere (D.files disk.old (index_name queue number)) (λ f. f ≡ settled f.reads → IsSegment segment (Some f))) }

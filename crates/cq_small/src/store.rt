@@ -152,6 +152,15 @@ impl SmallStore {
         self.number
     }
 
+    /// Where the content ends: 128 plus its length. At most 2^62.
+    pub fn end(&self) -> u64
+        ensures end { result ≡ end_of self.now }
+        ensures low { 128 ≤ result }
+        ensures high { result ≤ 2 ^ 62 }
+    {
+        self.gate.end()
+    }
+
     /// The length of the file, as this value knows it. At most 2^62.
     pub fn len(&self) -> u64
         ensures len { result ≡ len_of self.now }
