@@ -18,7 +18,7 @@ use Rattle.cq_held.specs.Standing.{Standing}
 use Rattle.cq_held.specs.Laws.{KeepsSteady}
 use Rattle.cq_held.proofs.Images.{at_name, still_reads}
 use Rattle.cq_held.proofs.Kept.{keeps_standing, keeps_steady}
-use Rattle.cq_node.specs.Layout.{content_in}
+use Rattle.cq_core.specs.Stored.{content_in}
 use Rattle.cq_node.specs.Agreeing.{StaysStanding, StaysSteady, WillCome, WillJoin, Joined}
 
 -- messages will come, too, once the file that isn't there is made

@@ -19,10 +19,10 @@ use Rattle.cq_entry.specs.Entry.{entry_bytes, IsPresent}
 use Rattle.cq_index.specs.Places.{index_name, entries_bytes}
 use Rattle.cq_held.specs.Held.{as_read, contents_of, AreEntries, present, spots, Zip, IsMessageOf, HoldsIn, Held}
 use Rattle.cq_held.proofs.Entries.{entries_are, present_append}
-use Rattle.cq_node.specs.Core.{ids, AreWritable}
-use Rattle.cq_node.specs.Layout.{records_of, entries_of, stored, content_in, AreStored}
+use Rattle.cq_core.specs.Core.{ids, AreWritable}
+use Rattle.cq_core.specs.Stored.{records_of, entries_of, stored, content_in, AreStored}
 use Rattle.cq_node.proofs.Files.{apart}
-use Rattle.cq_node.proofs.Laid.{length-record, records_of-push, stands}
+use Rattle.cq_core.proofs.Laid.{length-record, records_of-push, stands}
 
 -- ---- the entries are of the form
 

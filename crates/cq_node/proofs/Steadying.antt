@@ -30,14 +30,14 @@ use Rattle.cq_held.specs.Standing.{Standing, ComeNext, joined, IsSafe, IsQuiet}
 use Rattle.cq_held.specs.Laws.{opening}
 use Rattle.cq_held.proofs.Kept.{keeps_standing}
 use Rattle.cq_held.proofs.Sublists.{sublist_self}
-use Rattle.cq_node.specs.Answers.{Answers}
-use Rattle.cq_node.specs.Core.{AreWritable}
-use Rattle.cq_node.specs.Layout.{records_of, entries_of, records_end, stored, unstored, content_in, AreStored}
+use Rattle.cq_core.specs.Answers.{Answers}
+use Rattle.cq_core.specs.Core.{AreWritable}
+use Rattle.cq_core.specs.Stored.{records_of, entries_of, records_end, stored, unstored, content_in, AreStored}
 use Rattle.cq_node.specs.Agreeing.{stored_lines, WillJoin}
 use Rattle.cq_node.proofs.Agreeing.{laws}
 use Rattle.cq_node.proofs.Files.{apart}
 use Rattle.cq_node.proofs.Holds.{are, valid_from}
-use Rattle.cq_node.proofs.Laid.{records_of-append, entries_of-append}
+use Rattle.cq_core.proofs.Laid.{records_of-append, entries_of-append}
 
 -- no content has no entries
 none_present : (seen : List Seen) → AreEntries [] seen → present seen ≡ []

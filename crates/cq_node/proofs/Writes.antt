@@ -15,15 +15,15 @@ use Rattle.cq_journal.specs.declared.event.Message.{Message}
 use Rattle.cq_journal.specs.History.{line}
 use Rattle.cq_journal.specs.Asks.{asks}
 use Rattle.cq_inbox.specs.Requests.{publishes}
-use Rattle.cq_node.specs.Core.{undecided}
-use Rattle.cq_node.proofs.Counts.{published-asked}
-use Rattle.cq_node.specs.declared.batch.Batch.{Batch}
-use Rattle.cq_node.specs.Answers.{AddsSince}
-use Rattle.cq_node.specs.Batch.{IsBatch, numbered}
+use Rattle.cq_core.specs.Core.{undecided}
+use Rattle.cq_core.proofs.Counts.{published-asked}
+use Rattle.cq_core.specs.declared.batch.Batch.{Batch}
+use Rattle.cq_core.specs.Answers.{AddsSince}
+use Rattle.cq_core.specs.Batch.{IsBatch, numbered}
 use Rattle.cq_journal.specs.Confirms.{confirmed}
-use Rattle.cq_node.specs.Layout.{stored, unstored, records_of, records_end, entries_of, AreStored, Joins}
-use Rattle.cq_node.proofs.Laid.{records_of-append, entries_of-append, some-records, count-entries}
-use Rattle.cq_node.proofs.Batches.{length-numbered}
+use Rattle.cq_core.specs.Stored.{stored, unstored, records_of, records_end, entries_of, AreStored, Joins}
+use Rattle.cq_core.proofs.Laid.{records_of-append, entries_of-append, some-records, count-entries}
+use Rattle.cq_core.proofs.Batches.{length-numbered}
 
 -- what holds of an answer that is no error
 pub no_error : {T E P : Type 0} (result : Result T E) → is_err result ≡ false → OnOk result P → P

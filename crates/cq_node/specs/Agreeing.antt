@@ -9,7 +9,7 @@ use Rattle.cq_journal.specs.declared.event.Entry.{Entry}
 use Rattle.cq_journal.specs.declared.event.Message.{Message}
 use Rattle.cq_held.specs.Steady.{Steady}
 use Rattle.cq_held.specs.Standing.{Standing, ComeNext, joined, Passed}
-use Rattle.cq_node.specs.Layout.{stored, content_in}
+use Rattle.cq_core.specs.Stored.{stored, content_in}
 
 -- each queue's messages that are confirmed
 abbrev pub stored_lines : List Entry → ℕ → List Message
@@ -35,8 +35,3 @@ WillJoin files records past lines entries ms =
 -- once entries have joined the index, their messages stand there too
 abbrev pub Joined : (Name → Option File) → (Name → Option File) → List Entry → (ℕ → List Message) → List Message → Type 0
 Joined old new past lines ms = Standing old past lines → Standing new past (joined 0 ms lines)
-
--- so many publishes from one on, as they are confirmed: the n-th has the id n + 1
-abbrev pub passes : ℕ → ℕ → List Passed
-passes n zero = []
-passes n (suc count) = record { client = 0; number = n; id = n + 1 } ∷ passes (n + 1) count

@@ -16,7 +16,7 @@ ghost use Rattle.cq_index.specs.Places.{index_name, entries_bytes};
 ghost use Rattle.cq_index.specs.Segments.{name_of, count_of, reserved_of, len_of, IsOpen, IsVacant, IsSegment};
 ghost use Rattle.cq_node.specs.Files.{small_end, add_calls, IsOwn, IsSmallFile, IsIndexFile};
 ghost use Rattle.cq_node.specs.Agreeing.{StaysStanding, StaysSteady, WillCome, WillJoin, Joined};
-ghost use Rattle.cq_node.specs.Layout.{content_in, Joins};
+ghost use Rattle.cq_core.specs.Stored.{content_in, Joins};
 
 use cq_disk::{Disk, Fault};
 use cq_entry::Entry;

@@ -6,7 +6,7 @@ use Rattle.std.proofs.lemmas.List.{length-map}
 use Rattle.cq_journal.specs.declared.event.Event.{Event}
 use Rattle.cq_journal.specs.declared.event.Event.TheVariants as event
 use Rattle.cq_journal.specs.declared.reply.Reply.{Reply}
-use Rattle.cq_node.specs.Answers.{bodiless}
+use Rattle.cq_core.specs.Answers.{bodiless}
 use Rattle.cq_inbox.specs.declared.request.Request.{Request}
 use Rattle.cq_journal.specs.declared.event.Entry.{Entry}
 use Rattle.cq_journal.specs.Asks.{ask, asks, own, reply_of, replies}

@@ -2,12 +2,12 @@ use Rattle.std.proofs.Common.{◌≡◌, ℕ, ◌+◌, List, [], ◌∷◌, leng
 use Rattle.std.proofs.lemmas.Bool.{false≢true}
 use Rattle.std.proofs.lemmas.List.{take_at}
 use Rattle.cq_small.specs.Record.{StandsIn}
-use Rattle.cq_node.specs.Found.{IsFirstBody}
-use Rattle.cq_node.specs.Layout.{records_of, stored, IsStoredFirst, AreStored}
+use Rattle.cq_core.specs.Found.{IsFirstBody}
+use Rattle.cq_core.specs.Stored.{records_of, stored, IsStoredFirst, AreStored}
 use Rattle.cq_inbox.specs.Requests.{publishes}
 use Rattle.cq_inbox.specs.declared.request.Request.TheVariants.{Get}
 use Rattle.cq_journal.specs.Asks.{asks}
-use Rattle.cq_node.proofs.Counts.{answered-publishes}
+use Rattle.cq_core.proofs.Counts.{answered-publishes}
 use Rattle.cq_held.proofs.One.{same_body}
 use Rattle.cq_node.specs.Agreeing.{stored_lines}
 use Rattle.cq_node.proofs.Steadying.{answered_stands, answered_steady, looked_stands, looked_steady}

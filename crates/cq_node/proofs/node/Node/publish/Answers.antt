@@ -1,8 +1,8 @@
 use Rattle.std.proofs.Common.{◌≡◌, ◌+◌, [], ◌∷◌, length, sym, ap, ◌∙◌, arith}
 use Rattle.cq_inbox.specs.Requests.{publishes}
 use Rattle.cq_journal.specs.Asks.{asks}
-use Rattle.cq_node.specs.Layout.{records_of}
-use Rattle.cq_node.proofs.Counts.{published-asked, answered-publishes}
+use Rattle.cq_core.specs.Stored.{records_of}
+use Rattle.cq_core.proofs.Counts.{published-asked, answered-publishes}
 use Rattle.cq_inbox.specs.declared.request.Request.TheVariants.{Publish}
 use Rattle.cq_node.proofs.Steadying.{answered_stands, answered_steady}
 use Rattle.cq_node.proofs.node.Node.publish.Goals as goal

@@ -3,26 +3,26 @@ use Rattle.std.specs.Prelude.{All}
 use Rattle.cq_entry.specs.declared.entry.Entry.{Entry}
 use Rattle.cq_entry.specs.Entry.{IsEntry}
 use Rattle.cq_index.specs.Segments.{count_of}
-use Rattle.cq_node.specs.Batch.{IsBatch}
+use Rattle.cq_core.specs.Batch.{IsBatch}
 use Rattle.cq_inbox.specs.Requests.{publishes}
 use Rattle.cq_journal.specs.Asks.{asks, replies}
 use Rattle.cq_journal.specs.History.{line}
-use Rattle.cq_node.specs.Core.{undecided, IsQuiet, IsWhole}
+use Rattle.cq_core.specs.Core.{undecided, IsQuiet, IsWhole}
 use Rattle.cq_node.specs.Files.{small_end, add_calls}
-use Rattle.cq_node.specs.Layout.{records_end, stored, unstored, AreStored, Joins}
-use Rattle.cq_node.proofs.Batches.{length-numbered}
-use Rattle.cq_node.proofs.Counts.{published-asked}
+use Rattle.cq_core.specs.Stored.{records_end, stored, unstored, AreStored, Joins}
+use Rattle.cq_core.proofs.Batches.{length-numbered}
+use Rattle.cq_core.proofs.Counts.{published-asked}
 use Rattle.cq_node.proofs.Holds.{holds}
-use Rattle.cq_node.proofs.Laid.{length-spots}
+use Rattle.cq_core.proofs.Laid.{length-spots}
 use Rattle.std.proofs.Math.Logic.{∥∥₁_elim, ∥∥₁_map}
 use Rattle.std.proofs.lemmas.Bool.{false≢true}
 use Rattle.cq_journal.specs.Confirms.{confirmed}
 use Rattle.cq_held.specs.Steady.{Steady, Steady-prop}
 use Rattle.cq_held.specs.Standing.{Standing, joined, confirm_all}
 use Rattle.cq_node.specs.Agreeing.{stored_lines, passes}
-use Rattle.cq_node.specs.Answers.{AddsSince}
+use Rattle.cq_core.specs.Answers.{AddsSince}
 use Rattle.cq_node.proofs.Agreeing.{laws}
-use Rattle.cq_node.proofs.Passing.{passed_stand}
+use Rattle.cq_core.proofs.Passing.{passed_stand}
 use Rattle.cq_node.proofs.Steadying.{all_safe, come, now_lines}
 use Rattle.cq_node.proofs.Writes.{no_error, an_error, since_earlier, batch_is, batch_long, files_after, end_after, count_after, few_after}
 use Rattle.cq_node.proofs.node.Node.write_step.Goals as goal

@@ -1,6 +1,6 @@
 use Rattle.std.proofs.Common.{◌≡◌}
 use Rattle.cq_replay.specs.Running.{GoesOn, MovesOn}
-use Rattle.cq_node.specs.Core.{undecided}
+use Rattle.cq_core.specs.Core.{undecided}
 use Rattle.cq_replay.proofs.player.Player.write_all.Given as goal
 
 abbrev pub invariant-loop : goal.invariant-loop

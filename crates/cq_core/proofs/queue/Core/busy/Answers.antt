@@ -1,0 +1,41 @@
+use Rattle.std.proofs.Common.{◌≡◌, ◌<◌, ◌≤◌, List, [], ◌∷◌, ◌++◌, length, refl, sym, ap, ◌∙◌, subst, arith}
+use Rattle.cq_journal.specs.History.{unacked}
+use Rattle.cq_journal.specs.Legal.{newest}
+use Rattle.cq_journal.specs.declared.event.Event.TheVariants.{Busy}
+use Rattle.cq_journal.specs.declared.event.Entry.{Entry}
+use Rattle.cq_core.specs.Core.{State, IsWhole}
+use Rattle.cq_core.proofs.Steps.{kept-busy, kept_at}
+use Rattle.cq_journal.specs.Asks.{replies}
+use Rattle.cq_journal.specs.declared.reply.Reply.TheVariants as reply
+use Rattle.cq_journal.specs.Confirms.{confirmed}
+use Rattle.cq_core.specs.Stored.{stored}
+use Rattle.cq_core.specs.contracts.queue.Core.{the_view}
+use Rattle.cq_core.proofs.Found.{quiet_stored}
+use Rattle.cq_core.proofs.queue.Core.busy.Goals as goal
+
+pub invariant_of-self : goal.invariant_of-self
+invariant_of-self c =
+    let later : newest c.self.inside.journal.entries ≤ c.args.stamp = subst (λ (v : State). newest v.entries ≤ c.args.stamp) (sym c.self.view_is) c.requires.later in
+    let reserved : 0 < c.self.inside.reserved = subst (λ (v : State). 0 < v.reserved) (sym c.self.view_is) c.requires.reserved in
+    let room = c.self.invariant.1 in
+    let full : length (unacked c.self.inside.journal.entries 0) ≡ 64 = subst (λ (v : State). length (unacked v.entries 0) ≡ 64) (sym c.self.view_is) c.requires.full in (
+      kept_at (kept-busy c.args.stamp c.self.invariant.0 later full) c.push.ensures.entries refl refl c.push_reserved.ensures.items,
+      record {
+        journal = omega (arith, room.journal, c.push.ensures.room);
+        body = omega (arith, room.body);
+        place = omega (arith, room.place);
+        reply = omega (arith, room.reply, c.push_reserved.ensures.len, c.push_reserved.ensures.capacity);
+      },
+    )
+
+pub returns-clause-whole : goal.returns-clause-whole
+returns-clause-whole c = λ whole.
+    let old : IsWhole (the_view c.self.inside) = subst IsWhole (sym c.self.view_is) whole in
+    let is : c.push.new.self.entries ≡ record { event = Busy 0 0; stamp = c.args.stamp } ∷ c.self.inside.journal.entries = c.push.ensures.entries in
+    ap (λ l. replies l 0) is ∙ ap (λ l. l ++ reply.Busy 0 ∷ []) old ∙ sym c.push_reserved.ensures.items
+
+pub returns-clause-stored : goal.returns-clause-stored
+returns-clause-stored c =
+    let is : c.push.new.self.entries ≡ record { event = Busy 0 0; stamp = c.args.stamp } ∷ c.self.inside.journal.entries = c.push.ensures.entries in
+    subst (λ (v : State). (stored c.push.new.self.entries ≡ stored v.entries) × (confirmed c.push.new.self.entries ≡ confirmed v.entries)) c.self.view_is
+    (subst (λ (l : List Entry). (stored l ≡ stored c.self.inside.journal.entries) × (confirmed l ≡ confirmed c.self.inside.journal.entries)) (sym is) (quiet_stored c.self.invariant.0 (record { event = Busy 0 0; stamp = c.args.stamp }) refl))
