@@ -1,7 +1,7 @@
 -- The ids of new messages.
 use Rattle.std.specs.Prelude.{◌≡◌, ℕ, ◌+◌, ◌≤◌, ◌<◌, true, false, List, take, length}
 use Rattle.std.specs.List.{AllByRecursion}
-use Rattle.std.specs.List.Sorted.{IsIncreasing}
+use Rattle.std.specs.List.Sorted.{IsNonDecreasingBy}
 use Rattle.cq_bytes.specs.Numbers.{contains}
 
 -- the ids that stood in the folder, the next new one, and how many were given
@@ -22,7 +22,7 @@ pub record IsLeastFree (taken : List ℕ) (from x : ℕ) : Type 0 where
 
 -- The ids that stood there rise, so many of them are below the next one, and the next one isn't far.
 pub record IsNumbering (taken : List ℕ) (passed next given : ℕ) : Type 0 where
-  pub rising : IsIncreasing taken
+  pub rising : IsNonDecreasingBy (λ x. x) taken
   pub within : passed ≤ length taken
   pub below : AllByRecursion (λ x. x < next) (take passed taken)
   pub some : 1 ≤ next
