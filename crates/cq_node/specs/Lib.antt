@@ -2,3 +2,4 @@ pub mod Waiting
 pub mod Files
 pub mod Turned
 pub mod Agreeing
+pub mod Opening
