@@ -30,7 +30,8 @@ use Rattle.cq_index.specs.Opened.{IsIndex}
 use Rattle.cq_index.specs.Segments.{name_of, count_of, present_of, IsVacant, IsSegment, IsThereGate, Knows}
 use Rattle.cq_index.proofs.Entries.{entry_in}
 use Rattle.cq_held.specs.Held.{bytes_in, content_of}
-use Rattle.cq_back.specs.Folder.{index_file, small_file, IsSettled, file_bytes, IsStray, IsImageOrWithout}
+use Rattle.cq_held.specs.Folder.{IsSettled}
+use Rattle.cq_back.specs.Folder.{index_file, small_file, file_bytes, IsStray, IsImageOrWithout}
 use Rattle.cq_back.specs.declared.error.BackError.{BackError}
 use Rattle.cq_back.specs.declared.error.BackError.TheVariants.{Fault, Memory, Damaged}
 use Rattle.cq_back.specs.Read.{IsIndexOf, IsSmallOf, IsLacking, IsBodyAt, IfDamaged, Breaks, Misfits, gate_in, holds_id, piece, seen_of}

@@ -8,7 +8,8 @@ use Rattle.cq_disk.specs.FileLemmas.{settled_only}
 use Rattle.cq_disk.specs.Moments.{then, weaken}
 use Rattle.cq_index.specs.Places.{index_name}
 use Rattle.cq_held.specs.Held.{as_read, bytes_in}
-use Rattle.cq_back.specs.Folder.{IsOneQueue, IsSettled, ReadsSame, IsStray, IsImageOrWithout}
+use Rattle.cq_held.specs.Folder.{IsSettled}
+use Rattle.cq_back.specs.Folder.{IsOneQueue, ReadsSame, IsStray, IsImageOrWithout}
 use Rattle.cq_back.proofs.Synced.{has_file}
 use Rattle.cq_back.proofs.Opening.{same_files}
 

@@ -12,7 +12,8 @@ use Rattle.cq_disk.specs.Files.{HasFile, IsImage, IsImageOf, Changes, ChangesWit
 use Rattle.cq_disk.specs.Call.{Image, Elapses, LeavesOnly}
 use Rattle.cq_disk.specs.Moments.{Found, found, sync_only, then, weaken}
 use Rattle.cq_held.specs.Held.{bytes_in}
-use Rattle.cq_back.specs.Folder.{IsSettled, ReadsSame}
+use Rattle.cq_held.specs.Folder.{IsSettled}
+use Rattle.cq_back.specs.Folder.{ReadsSame}
 
 -- of the files the first so many of these names are all on the disk, each file reads as it did, and a crash leaves no more than before
 pub record Syncs (files new : Name → Option File) (names : List Name) (now : ℕ) : Type 0 where

@@ -1,16 +1,19 @@
 // The opening of a folder.
-ghost use Rattle.std.specs.Prelude.{ℕ, List, ◌≡◌, ◌≤◌, ◌↔◌, true, false, None, IfOk, IfErr, OnOk};
+ghost use Rattle.std.specs.Prelude.{ℕ, List, ◌≡◌, ◌≤◌, ◌↔◌, true, false, Some, None, IfOk, IfErr, OnOk};
 ghost use Rattle.cq_disk.specs.declared.name.Name.{Name};
 ghost use Rattle.cq_disk.specs.Files.{HasFile, IsImage, SameFiles};
 ghost use Rattle.cq_disk.specs.Call.{LeavesOnly, Caused, CausedOf, StruckBy, StruckByOf, KeepsPlan};
 ghost use Rattle.cq_journal.specs.declared.event.Message.{Message};
 ghost use Rattle.cq_journal.specs.History.{opened_in};
 ghost use Rattle.cq_journal.specs.Legal.{AreLines};
+ghost use Rattle.cq_gate.specs.declared.gate.Gate.{Gate};
 ghost use Rattle.cq_held.specs.Held.{as_read};
 ghost use Rattle.cq_held.specs.Steady.{SoundBy};
-ghost use Rattle.cq_index.specs.Segments.{name_of, IsSegment};
+ghost use Rattle.cq_index.specs.Segments.{name_of, IsOpen, IsVacant, IsSegment};
+ghost use Rattle.cq_held.specs.Folder.{IsSettled};
+ghost use Rattle.cq_held.specs.Standing.{StillHolds};
 ghost use Rattle.cq_back.specs.declared.error.BackError.TheVariants.{Fault as back_fault};
-ghost use Rattle.cq_back.specs.Folder.{index_file, small_file, IsOneQueue, IsSettled, IsShort, ReadsSame, IsImageOrWithout, IsWithoutStray, StillHolds};
+ghost use Rattle.cq_back.specs.Folder.{index_file, small_file, IsOneQueue, IsShort, ReadsSame, IsImageOrWithout, IsWithoutStray};
 ghost use Rattle.cq_back.specs.Read.{IsSmallOf, gate_in, AreHeld, IfDamaged};
 ghost use Rattle.cq_back.specs.Found.{BreaksFolder};
 
@@ -36,6 +39,8 @@ pub fn open_folder<D: Disk>(alloc: Global, disk: &mut D) -> Result<FoundQueue, B
     ensures lines { IfOk result (λ found. D.tells → AreLines found.lines) }
     ensures settled { OnOk result (D.tells → (n : Name) → IsSettled (D.files disk.new n)) }
     ensures name { IfOk result (λ found. name_of found.segment ≡ index_file) }
+    ensures made { IfOk result (λ found. (found.made ≡ true → IsOpen found.segment) × (found.made ≡ false → IsVacant found.segment)) }
+    ensures store_name { IfOk result (λ found. (g : Gate) → gate_in found.small ≡ Some g → g.name ≡ small_file) }
     ensures segment { IfOk result (λ found. D.tells → IsSegment found.segment (D.files disk.new index_file)) }
     ensures small { IfOk result (λ found. D.tells → IsSmallOf (gate_in found.small) (D.files disk.new small_file)) }
     ensures damaged { IfErr result (λ error. IfDamaged error (λ name place found. D.tells → BreaksFolder (as_read (D.files disk.old)) name place found)) }
@@ -64,6 +69,8 @@ fn open_queue<D: Disk>(alloc: Global, disk: &mut D) -> Result<FoundQueue, BackEr
     ensures lines { IfOk result (λ found. D.tells → AreLines found.lines) }
     ensures settled { OnOk result (D.tells → (n : Name) → IsSettled (D.files disk.new n)) }
     ensures name { IfOk result (λ found. name_of found.segment ≡ index_file) }
+    ensures made { IfOk result (λ found. (found.made ≡ true → IsOpen found.segment) × (found.made ≡ false → IsVacant found.segment)) }
+    ensures store_name { IfOk result (λ found. (g : Gate) → gate_in found.small ≡ Some g → g.name ≡ small_file) }
     ensures segment { IfOk result (λ found. D.tells → IsSegment found.segment (D.files disk.new index_file)) }
     ensures small { IfOk result (λ found. D.tells → IsSmallOf (gate_in found.small) (D.files disk.new small_file)) }
     ensures damaged { IfErr result (λ error. IfDamaged error (λ name place found. D.tells → BreaksFolder (as_read (D.files disk.old)) name place found)) }
@@ -85,7 +92,7 @@ fn open_queue<D: Disk>(alloc: Global, disk: &mut D) -> Result<FoundQueue, BackEr
         Ok(found) => found,
         Err(error) => return Err(error),
     };
-    match drop_stray(disk, &mut found, index) {
+    match drop_stray(disk, &mut found) {
         Ok(()) => Ok(found),
         Err(Fault) => Err(BackError::Fault),
     }
@@ -105,6 +112,9 @@ fn read_queue<D: Disk>(
     ensures held { IfOk result (λ found. D.tells → AreHeld (as_read (D.files disk.old)) found.held.items found.lines) }
     ensures lines { IfOk result (λ found. D.tells → AreLines found.lines) }
     ensures name { IfOk result (λ found. name_of found.segment ≡ index_file) }
+    ensures told { IfOk result (λ found. found.made ≡ index) }
+    ensures made { IfOk result (λ found. (found.made ≡ true → IsOpen found.segment) × (found.made ≡ false → IsVacant found.segment)) }
+    ensures store_name { IfOk result (λ found. (g : Gate) → gate_in found.small ≡ Some g → g.name ≡ small_file) }
     ensures segment { IfOk result (λ found. D.tells → IsSegment found.segment (D.files disk.old index_file)) }
     ensures small { IfOk result (λ found. D.tells → IsSmallOf (gate_in found.small) (D.files disk.old small_file)) }
     ensures damaged { IfErr result (λ error. IfDamaged error (λ name place found. D.tells → BreaksFolder (as_read (D.files disk.old)) name place found)) }
@@ -120,6 +130,7 @@ fn read_queue<D: Disk>(
     match read_messages(alloc, disk, &mut segment, &mut small) {
         Ok((held, lines)) => Ok(FoundQueue {
             segment,
+            made: index,
             small,
             held,
             lines,
@@ -129,19 +140,21 @@ fn read_queue<D: Disk>(
 }
 
 /// Removes the small store where its index isn't there.
-fn drop_stray<D: Disk>(disk: &mut D, found: &mut FoundQueue, index: bool) -> Result<(), Fault>
-    requires index { D.tells → index ≡ false → D.files disk.old index_file ≡ None }
+fn drop_stray<D: Disk>(disk: &mut D, found: &mut FoundQueue) -> Result<(), Fault>
+    requires index { D.tells → found.old.made ≡ false → D.files disk.old index_file ≡ None }
     requires small { D.tells → IsSmallOf (gate_in found.old.small) (D.files disk.old small_file) }
     ensures ok { OnOk result (D.tells → IsWithoutStray (D.files disk.old) (D.files disk.new)) }
     ensures small { OnOk result (D.tells → IsSmallOf (gate_in found.new.small) (D.files disk.new small_file)) }
-    ensures same { (found.new.segment ≡ found.old.segment) × (found.new.held ≡ found.old.held) × (found.new.lines ≡ found.old.lines) }
+    ensures same { (found.new.segment ≡ found.old.segment) × (found.new.held ≡ found.old.held) × (found.new.lines ≡ found.old.lines) × (found.new.made ≡ found.old.made) }
+    ensures stays { found.old.made ≡ true → found.new.small ≡ found.old.small }
+    ensures gone { OnOk result (found.old.made ≡ false → found.new.small ≡ None) }
     ensures any_moment { D.tells → LeavesOnly D.moment D.left disk.old disk.new (IsImageOrWithout (D.files disk.old)) }
     ensures cause { Caused (D.faults disk.old) (D.faults disk.new) result }
     ensures later { D.moment disk.old ≤ D.moment disk.new }
     ensures strike { StruckBy (D.fuse disk.old) (D.moment disk.new) (D.struck disk.old) (D.struck disk.new) result }
     ensures plan { KeepsPlan (D.fuse disk.old) (D.planned disk.old) (D.fuse disk.new) (D.planned disk.new) }
 {
-    if index || found.small.is_none() {
+    if found.made || found.small.is_none() {
         return Ok(());
     }
     disk.remove(SMALL)?;

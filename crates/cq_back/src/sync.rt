@@ -4,8 +4,9 @@ ghost use Rattle.cq_disk.specs.declared.name.Name.{Name};
 ghost use Rattle.cq_disk.specs.declared.disk.DiskError.TheVariants.{Fault as disk_fault};
 ghost use Rattle.cq_disk.specs.Files.{HasFile, IsImage, NamesAre};
 ghost use Rattle.cq_disk.specs.Call.{LeavesOnly, Caused, CausedOf, StruckBy, StruckByOf, KeepsPlan};
+ghost use Rattle.cq_held.specs.Folder.{IsSettled};
 ghost use Rattle.cq_back.specs.declared.error.BackError.TheVariants.{Fault as back_fault};
-ghost use Rattle.cq_back.specs.Folder.{IsSettled, ReadsSame};
+ghost use Rattle.cq_back.specs.Folder.{ReadsSame};
 ghost use Rattle.cq_back.specs.Read.{IfDamaged};
 
 use crate::error::BackError;

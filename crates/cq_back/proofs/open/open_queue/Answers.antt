@@ -1,7 +1,8 @@
-use Rattle.std.proofs.Common.{sym, subst, List, Option}
+use Rattle.std.proofs.Common.{sym, ◌∙◌, subst, List, Option}
 use Rattle.cq_disk.specs.declared.name.Name.{Name}
 use Rattle.cq_disk.specs.Call.{Image}
 use Rattle.cq_disk.specs.File.{File}
+use Rattle.cq_index.specs.Segments.{IsOpen, IsVacant}
 use Rattle.cq_journal.specs.declared.lines.Line.{Line}
 use Rattle.cq_journal.specs.History.{opened_in}
 use Rattle.cq_journal.specs.Legal.{AreLines}
@@ -13,7 +14,7 @@ use Rattle.cq_back.specs.Found.{BreaksFolder}
 use Rattle.cq_back.specs.Folder.{IsWithoutStray}
 use Rattle.cq_back.proofs.Opening.{damaged_to, same_files, no_error_of}
 use Rattle.cq_back.proofs.Runs.{reads_are, one_queue, read_run, reads_run, removed_run}
-use Rattle.cq_back.proofs.Stray.{without_sound}
+use Rattle.cq_back.proofs.Stray.{without_sound, still_named}
 use Rattle.cq_back.proofs.open.open_queue.Goals as goal
 
 pub returns-in-Err-read_queue-clause-damaged : goal.returns-in-Err-read_queue-clause-damaged
@@ -84,3 +85,14 @@ returns-in-Err-read_queue-clause-only_reads g c = λ told none.
     let e = c.in-Ok.ensures in
     reads_run d.moment d.left d.files (g.met.D.Disk.now_only told) c.args.disk.now c.sync_all.new.disk (g.met.D.Disk.reads_left told c.args.disk.now) (e.settled told) (e.reads told no_error_of) (e.any_moment told)
     c.read_queue.new.disk (c.in-Err-read_queue.ensures.any_moment told)
+
+pub returns-in-Ok-drop_stray-clause-made : goal.returns-in-Ok-drop_stray-clause-made
+returns-in-Ok-drop_stray-clause-made g c =
+    let s = c.in-Ok-drop_stray.ensures.same in
+    let made = c.in-Ok-read_queue.ensures.made in
+    (λ is. subst IsOpen (sym s.0) (made.0 (sym s.3 ∙ is)), λ is. subst IsVacant (sym s.0) (made.1 (sym s.3 ∙ is)))
+
+pub returns-in-Ok-drop_stray-clause-store_name : goal.returns-in-Ok-drop_stray-clause-store_name
+returns-in-Ok-drop_stray-clause-store_name g c =
+    let e = c.in-Ok-drop_stray.ensures in
+    still_named c.in-Ok-read_queue.found.made c.in-Ok-read_queue.found.small c.drop_stray.new.found.small e.stays e.gone c.in-Ok-read_queue.ensures.store_name
