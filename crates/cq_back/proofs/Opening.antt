@@ -1,5 +1,5 @@
 -- What the opened files of a folder tell.
-use Rattle.std.proofs.Common.{◌≡◌, ◌⊎◌, inl, inr, ⊎_elim, ℕ, ◌+◌, ◌*◌, ◌-◌, ◌<◌, Bool, true, false, List, [], Option, Some, None, Result, Ok, Err, IfErr, OnOk, OnErr, Contains, IfSome, IsSome, MatchOption, length, refl, sym, ◌∙◌, ap, subst, arith}
+use Rattle.std.proofs.Common.{◌≡◌, ◌⊎◌, inl, inr, ⊎_elim, ℕ, ◌+◌, ◌*◌, ◌-◌, ◌<◌, Bool, true, false, List, [], Option, Some, None, Result, Ok, Err, IfOk, IfErr, OnOk, OnErr, Contains, IfSome, IsSome, MatchOption, length, refl, sym, ◌∙◌, ap, subst, arith}
 use Rattle.std.specs.Prelude.{◌↔◌, slice_index}
 use Rattle.std.proofs.lemmas.Bool.{false≢true, cases_Bool}
 use Rattle.std.specs.BTreeMap.{is_at}
@@ -238,6 +238,10 @@ module _ {D : Type 0} (moment : D → ℕ) (left : D → ℕ → ℕ → Image �
 pub if_err : {T E : Type 0} (result : Result T E) (P Q : E → Type 0) → ((e : E) → P e → Q e) → IfErr result P → IfErr result Q
 if_err (Ok v) P Q step has = tt
 if_err (Err e) P Q step has = step e has
+
+pub if_ok : {T E : Type 0} (result : Result T E) (P Q : T → Type 0) → ((v : T) → P v → Q v) → IfOk result P → IfOk result Q
+if_ok (Ok v) P Q step has = step v has
+if_ok (Err e) P Q step has = tt
 
 -- one error, whatever a value would be
 pub err_of : {T S E : Type 0} (fault e : E) → Path (Result T E) (Err e) (Err fault) → Path (Result S E) (Err e) (Err fault)

@@ -1,5 +1,5 @@
 -- Small stores whose index isn't there hold nothing: with or without them, a folder holds the same.
-use Rattle.std.proofs.Common.{◌≡◌, ◌⊎◌, inl, inr, ⊎_elim, ℕ, zero, suc, ◌≤◌, List, [], ◌∷◌, ◌++◌, Bool, true, false, Option, Some, None, Result, Ok, Err, IfOk, OnOk, length, refl, sym, ◌∙◌, ap, subst, arith}
+use Rattle.std.proofs.Common.{◌≡◌, ◌⊎◌, inl, inr, ⊎_elim, ℕ, zero, suc, ◌≤◌, ◌<◌, List, [], ◌∷◌, ◌++◌, Bool, true, false, Option, Some, None, Result, Ok, Err, IfOk, OnOk, length, refl, sym, ◌∙◌, ap, subst, arith}
 use Rattle.std.specs.List.{AllByRecursion}
 use Rattle.cq_disk.specs.declared.name.Name.{Name}
 use Rattle.cq_disk.specs.declared.name.Kind.TheVariants.{Index, Small}
@@ -12,7 +12,9 @@ use Rattle.cq_entry.specs.declared.entry.Seen.{Seen}
 use Rattle.cq_small.specs.Record.{StandsIn}
 use Rattle.cq_small.specs.declared.store.SmallStore.{SmallStore}
 use Rattle.cq_small.specs.Store.{small_name}
+use Rattle.cq_index.specs.declared.segment.Segment.{Segment}
 use Rattle.cq_index.specs.Places.{index_name}
+use Rattle.cq_index.specs.Segments.{count_of, IsVacant}
 use Rattle.cq_journal.specs.declared.event.Message.{Message}
 use Rattle.cq_journal.specs.History.{opened_in}
 use Rattle.cq_held.specs.Held.{AreEntries, present, Spot, spots, below, Zip, IsMessageOf, HoldsIn, as_read, bytes_in, contents_of, content_of}
@@ -21,8 +23,9 @@ use Rattle.cq_held.specs.Steady.{SoundBy}
 use Rattle.cq_held.specs.Standing.{StillHolds}
 use Rattle.cq_held.proofs.Kept.{at_rest}
 use Rattle.cq_back.specs.declared.found.FoundQueue.{FoundQueue}
+use Rattle.cq_back.specs.declared.found.HeldEntry.{HeldEntry}
 use Rattle.cq_back.specs.Folder.{small_file, IsImageOrWithout, IsWithoutStray}
-use Rattle.cq_back.specs.Read.{gate_in}
+use Rattle.cq_back.specs.Read.{gate_in, len_in, AreWithin}
 
 -- each content is as it was, but that those of small stores whose index is empty may be others
 abbrev IsLess : (Name → List ℕ) → (Name → List ℕ) → Type 0
@@ -117,3 +120,9 @@ still_named false old new stays gone named g is = absurd (none_some (sym (ap gat
   where
     none_some : None ≡ Some g → ⊥
     none_some e = cc
+
+-- where it went, no entry is held
+pub still_within : (made : Bool) (segment : Segment) (old new : Option SmallStore) (held : List HeldEntry) → (made ≡ true → new ≡ old) → (made ≡ false → IsVacant segment) → AllByRecursion (λ h. h.at < count_of segment) held → AreWithin (len_in old) held → AreWithin (len_in new) held
+still_within true segment old new held stays vacant below within = subst (λ (small : Option SmallStore). AreWithin (len_in small) held) (sym (stays refl)) within
+still_within false segment old new [] stays vacant below within = tt
+still_within false segment old new (h ∷ hs) stays vacant below within = let none = (segment.vacant (vacant refl)).0 in let lt = below.0 in absurd (omega (arith, none, lt))

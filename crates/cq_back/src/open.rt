@@ -1,5 +1,6 @@
 // The opening of a folder.
-ghost use Rattle.std.specs.Prelude.{ℕ, List, ◌≡◌, ◌≤◌, ◌↔◌, true, false, Some, None, IfOk, IfErr, OnOk};
+ghost use Rattle.std.specs.Prelude.{ℕ, List, ◌≡◌, ◌≤◌, ◌+◌, ◌↔◌, length, true, false, Some, None, IfOk, IfErr, OnOk};
+ghost use Rattle.std.specs.List.{AllByRecursion};
 ghost use Rattle.cq_disk.specs.declared.name.Name.{Name};
 ghost use Rattle.cq_disk.specs.Files.{HasFile, IsImage, SameFiles};
 ghost use Rattle.cq_disk.specs.Call.{LeavesOnly, Caused, CausedOf, StruckBy, StruckByOf, KeepsPlan};
@@ -9,12 +10,12 @@ ghost use Rattle.cq_journal.specs.Legal.{AreLines};
 ghost use Rattle.cq_gate.specs.declared.gate.Gate.{Gate};
 ghost use Rattle.cq_held.specs.Held.{as_read};
 ghost use Rattle.cq_held.specs.Steady.{SoundBy};
-ghost use Rattle.cq_index.specs.Segments.{name_of, IsOpen, IsVacant, IsSegment};
+ghost use Rattle.cq_index.specs.Segments.{name_of, count_of, IsOpen, IsVacant, IsSegment};
 ghost use Rattle.cq_held.specs.Folder.{IsSettled};
 ghost use Rattle.cq_held.specs.Standing.{StillHolds};
 ghost use Rattle.cq_back.specs.declared.error.BackError.TheVariants.{Fault as back_fault};
 ghost use Rattle.cq_back.specs.Folder.{index_file, small_file, IsOneQueue, IsShort, ReadsSame, IsImageOrWithout, IsWithoutStray};
-ghost use Rattle.cq_back.specs.Read.{IsSmallOf, gate_in, AreHeld, IfDamaged};
+ghost use Rattle.cq_back.specs.Read.{IsSmallOf, gate_in, len_in, AreHeld, AreMatched, AreTaken, AreWithin, IfDamaged};
 ghost use Rattle.cq_back.specs.Found.{BreaksFolder};
 
 use crate::error::BackError;
@@ -36,7 +37,12 @@ pub fn open_folder<D: Disk>(alloc: Global, disk: &mut D) -> Result<FoundQueue, B
     ensures now { IfOk result (λ found. D.tells → IsOneQueue (D.files disk.old) → StillHolds (D.files disk.new) (λ q. opened_in q found.lines)) }
     // Each with its entry.
     ensures held { IfOk result (λ found. D.tells → AreHeld (as_read (D.files disk.old)) found.held.items found.lines) }
-    ensures lines { IfOk result (λ found. D.tells → AreLines found.lines) }
+    ensures lines { IfOk result (λ found. AreLines found.lines) }
+    ensures one_queue { IfOk result (λ found. AllByRecursion (λ l. l.queue ≡ 0) found.lines) }
+    ensures matched { IfOk result (λ found. AreMatched found.held.items found.lines) }
+    ensures short { IfOk result (λ found. AllByRecursion (λ l. length l.body ≤ 1048576) found.lines) }
+    // Each record lies within the small store.
+    ensures within { IfOk result (λ found. AllByRecursion (λ h. h.entry.place + h.entry.len + 5 ≤ len_in found.small) found.held.items) }
     ensures settled { OnOk result (D.tells → (n : Name) → IsSettled (D.files disk.new n)) }
     ensures name { IfOk result (λ found. name_of found.segment ≡ index_file) }
     ensures made { IfOk result (λ found. (found.made ≡ true → IsOpen found.segment) × (found.made ≡ false → IsVacant found.segment)) }
@@ -66,7 +72,8 @@ fn open_queue<D: Disk>(alloc: Global, disk: &mut D) -> Result<FoundQueue, BackEr
     ensures ok { IfOk result (λ found. D.tells → IsOneQueue (D.files disk.old) → SoundBy (as_read (D.files disk.old)) (λ q. opened_in q found.lines)) }
     ensures now { IfOk result (λ found. D.tells → IsOneQueue (D.files disk.old) → SoundBy (as_read (D.files disk.new)) (λ q. opened_in q found.lines)) }
     ensures held { IfOk result (λ found. D.tells → AreHeld (as_read (D.files disk.old)) found.held.items found.lines) }
-    ensures lines { IfOk result (λ found. D.tells → AreLines found.lines) }
+    ensures taken { IfOk result (λ found. AreTaken (count_of found.segment) found.held.items found.lines) }
+    ensures within { IfOk result (λ found. AreWithin (len_in found.small) found.held.items) }
     ensures settled { OnOk result (D.tells → (n : Name) → IsSettled (D.files disk.new n)) }
     ensures name { IfOk result (λ found. name_of found.segment ≡ index_file) }
     ensures made { IfOk result (λ found. (found.made ≡ true → IsOpen found.segment) × (found.made ≡ false → IsVacant found.segment)) }
@@ -110,7 +117,8 @@ fn read_queue<D: Disk>(
     requires settled { D.tells → (n : Name) → IsSettled (D.files disk.old n) }
     ensures sound { IfOk result (λ found. D.tells → IsOneQueue (D.files disk.old) → SoundBy (as_read (D.files disk.old)) (λ q. opened_in q found.lines)) }
     ensures held { IfOk result (λ found. D.tells → AreHeld (as_read (D.files disk.old)) found.held.items found.lines) }
-    ensures lines { IfOk result (λ found. D.tells → AreLines found.lines) }
+    ensures taken { IfOk result (λ found. AreTaken (count_of found.segment) found.held.items found.lines) }
+    ensures within { IfOk result (λ found. AreWithin (len_in found.small) found.held.items) }
     ensures name { IfOk result (λ found. name_of found.segment ≡ index_file) }
     ensures told { IfOk result (λ found. found.made ≡ index) }
     ensures made { IfOk result (λ found. (found.made ≡ true → IsOpen found.segment) × (found.made ≡ false → IsVacant found.segment)) }

@@ -1,8 +1,10 @@
 use Rattle.cq_disk.specs.Moments.{weaken}
+use Rattle.cq_index.specs.Segments.{count_of}
 use Rattle.cq_held.specs.Steady.{SoundBy}
 use Rattle.cq_back.specs.Folder.{IsImageOrWithout}
 use Rattle.cq_held.specs.Held.{as_read}
-use Rattle.cq_back.proofs.Opening.{if_err, damaged_to}
+use Rattle.cq_back.proofs.Opening.{if_ok, if_err, damaged_to}
+use Rattle.cq_back.proofs.Ids.{lines_taken, lines_short}
 use Rattle.cq_back.proofs.Refused.{not_sound}
 use Rattle.cq_back.proofs.Stray.{now_holds, left_sound}
 use Rattle.cq_back.proofs.open.open_folder.Goals as goal
@@ -19,3 +21,15 @@ returns-clause-meanwhile g c = λ told lines holds.
 pub returns-clause-refuses : goal.returns-clause-refuses
 returns-clause-refuses g c = if_err c.open_queue.result _ _
     (λ error broken. damaged_to error _ _ (λ name place found b told short lines. not_sound (as_read (g.D.Disk.files c.args.disk.now)) lines name place found short (b told)) broken) c.open_queue.ensures.damaged
+
+pub returns-clause-lines : goal.returns-clause-lines
+returns-clause-lines g c = if_ok c.open_queue.result _ _ (λ found taken. lines_taken (count_of found.segment) found.held.items found.lines taken) c.open_queue.ensures.taken
+
+pub returns-clause-one_queue : goal.returns-clause-one_queue
+returns-clause-one_queue g c = if_ok c.open_queue.result _ _ (λ found taken. taken.queues) c.open_queue.ensures.taken
+
+pub returns-clause-matched : goal.returns-clause-matched
+returns-clause-matched g c = if_ok c.open_queue.result _ _ (λ found taken. taken.matched) c.open_queue.ensures.taken
+
+pub returns-clause-short : goal.returns-clause-short
+returns-clause-short g c = if_ok c.open_queue.result _ _ (λ found taken. lines_short found.held.items found.lines taken.matched) c.open_queue.ensures.taken

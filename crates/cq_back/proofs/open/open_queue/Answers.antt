@@ -2,19 +2,19 @@ use Rattle.std.proofs.Common.{sym, ◌∙◌, subst, List, Option}
 use Rattle.cq_disk.specs.declared.name.Name.{Name}
 use Rattle.cq_disk.specs.Call.{Image}
 use Rattle.cq_disk.specs.File.{File}
-use Rattle.cq_index.specs.Segments.{IsOpen, IsVacant}
+use Rattle.cq_index.specs.declared.segment.Segment.{Segment}
+use Rattle.cq_index.specs.Segments.{count_of, IsOpen, IsVacant}
 use Rattle.cq_journal.specs.declared.lines.Line.{Line}
 use Rattle.cq_journal.specs.History.{opened_in}
-use Rattle.cq_journal.specs.Legal.{AreLines}
 use Rattle.cq_held.specs.Held.{as_read}
 use Rattle.cq_held.specs.Steady.{SoundBy}
 use Rattle.cq_back.specs.declared.found.HeldEntry.{HeldEntry}
-use Rattle.cq_back.specs.Read.{AreHeld}
+use Rattle.cq_back.specs.Read.{len_in, AreHeld, AreTaken, AreWithin}
 use Rattle.cq_back.specs.Found.{BreaksFolder}
 use Rattle.cq_back.specs.Folder.{IsWithoutStray}
 use Rattle.cq_back.proofs.Opening.{damaged_to, same_files, no_error_of}
 use Rattle.cq_back.proofs.Runs.{reads_are, one_queue, read_run, reads_run, removed_run}
-use Rattle.cq_back.proofs.Stray.{without_sound, still_named}
+use Rattle.cq_back.proofs.Stray.{without_sound, still_named, still_within}
 use Rattle.cq_back.proofs.open.open_queue.Goals as goal
 
 pub returns-in-Err-read_queue-clause-damaged : goal.returns-in-Err-read_queue-clause-damaged
@@ -76,8 +76,22 @@ returns-clause-any_moment g c = λ told.
     removed_run d.moment d.left d.files (g.met.D.Disk.now_only told) c.args.disk.now c.sync_all.new.disk (g.met.D.Disk.reads_left told c.args.disk.now) (e.settled told) (e.reads told no_error_of) (e.any_moment told)
     c.read_queue.new.disk c.drop_stray.new.disk (c.in-Ok-read_queue.ensures.files told) (c.in-Ok-read_queue.ensures.any_moment told) (c.in-Err-drop_stray.ensures.any_moment told)
 
-pub returns-in-Ok-drop_stray-clause-lines : goal.returns-in-Ok-drop_stray-clause-lines
-returns-in-Ok-drop_stray-clause-lines g c = λ told. subst AreLines (sym c.in-Ok-drop_stray.ensures.same.2) (c.in-Ok-read_queue.ensures.lines told)
+pub returns-in-Ok-drop_stray-clause-taken : goal.returns-in-Ok-drop_stray-clause-taken
+returns-in-Ok-drop_stray-clause-taken g c =
+    let s = c.in-Ok-drop_stray.ensures.same in
+    let found = c.in-Ok-read_queue.found in
+    let held = c.drop_stray.new.found.held.items in
+    subst (λ (segment : Segment). AreTaken (count_of segment) held c.drop_stray.new.found.lines) (sym s.0)
+    (subst (AreTaken (count_of found.segment) held) (sym s.2)
+    (subst (λ (hs : List HeldEntry). AreTaken (count_of found.segment) hs found.lines) (λ i. (sym s.1 i).items) c.in-Ok-read_queue.ensures.taken))
+
+pub returns-in-Ok-drop_stray-clause-within : goal.returns-in-Ok-drop_stray-clause-within
+returns-in-Ok-drop_stray-clause-within g c =
+    let e = c.in-Ok-drop_stray.ensures in
+    let r = c.in-Ok-read_queue.ensures in
+    let found = c.in-Ok-read_queue.found in
+    subst (AreWithin (len_in c.drop_stray.new.found.small)) (λ i. (sym e.same.1 i).items)
+    (still_within found.made found.segment found.small c.drop_stray.new.found.small found.held.items e.stays r.made.1 r.taken.below r.within)
 
 pub returns-in-Err-read_queue-clause-only_reads : goal.returns-in-Err-read_queue-clause-only_reads
 returns-in-Err-read_queue-clause-only_reads g c = λ told none.
