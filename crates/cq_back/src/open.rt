@@ -1,16 +1,19 @@
 // The opening of a folder.
-ghost use Rattle.std.specs.Prelude.{ℕ, List, ◌≡◌, ◌≤◌, ◌+◌, ◌↔◌, length, true, false, Some, None, IfOk, IfErr, OnOk};
+ghost use Rattle.std.specs.Prelude.{ℕ, List, ◌≡◌, ◌≤◌, ◌+◌, ◌*◌, ◌↔◌, length, true, false, Some, None, IfOk, IfErr, OnOk};
 ghost use Rattle.std.specs.List.{AllByRecursion};
 ghost use Rattle.cq_disk.specs.declared.name.Name.{Name};
-ghost use Rattle.cq_disk.specs.Files.{HasFile, IsImage, SameFiles};
+ghost use Rattle.cq_disk.specs.Files.{HasFile, IsThere, IsImage, SameFiles};
 ghost use Rattle.cq_disk.specs.Call.{LeavesOnly, Caused, CausedOf, StruckBy, StruckByOf, KeepsPlan};
 ghost use Rattle.cq_journal.specs.declared.event.Message.{Message};
 ghost use Rattle.cq_journal.specs.History.{opened_in};
 ghost use Rattle.cq_journal.specs.Legal.{AreLines};
 ghost use Rattle.cq_gate.specs.declared.gate.Gate.{Gate};
-ghost use Rattle.cq_held.specs.Held.{as_read};
+ghost use Rattle.cq_held.specs.Held.{as_read, contents_of};
 ghost use Rattle.cq_held.specs.Steady.{SoundBy};
-ghost use Rattle.cq_index.specs.Segments.{name_of, count_of, IsOpen, IsVacant, IsSegment};
+ghost use Rattle.cq_small.specs.declared.store.SmallStore.{SmallStore};
+ghost use Rattle.cq_small.specs.Store.{len_of as store_len};
+ghost use Rattle.cq_index.specs.Codec.{entry_len, most_entries};
+ghost use Rattle.cq_index.specs.Segments.{name_of, count_of, len_of, IsOpen, IsVacant, IsSegment};
 ghost use Rattle.cq_held.specs.Folder.{IsSettled};
 ghost use Rattle.cq_held.specs.Standing.{StillHolds};
 ghost use Rattle.cq_back.specs.declared.error.BackError.TheVariants.{Fault as back_fault};
@@ -47,14 +50,21 @@ pub fn open_folder<D: Disk>(alloc: Global, disk: &mut D) -> Result<FoundQueue, B
     ensures name { IfOk result (λ found. name_of found.segment ≡ index_file) }
     ensures made { IfOk result (λ found. (found.made ≡ true → IsOpen found.segment) × (found.made ≡ false → IsVacant found.segment)) }
     ensures store_name { IfOk result (λ found. (g : Gate) → gate_in found.small ≡ Some g → g.name ≡ small_file) }
+    ensures count { IfOk result (λ found. D.tells → length (contents_of (as_read (D.files disk.old)) index_file) ≡ entry_len * count_of found.segment) }
+    ensures few { IfOk result (λ found. count_of found.segment ≤ most_entries) }
     ensures segment { IfOk result (λ found. D.tells → IsSegment found.segment (D.files disk.new index_file)) }
     ensures small { IfOk result (λ found. D.tells → IsSmallOf (gate_in found.small) (D.files disk.new small_file)) }
+    // Where a file has no header, no crash can leave more of it.
+    ensures bare_index { IfOk result (λ found. D.tells → IsOpen found.segment → len_of found.segment ≤ 128 → IsThere (D.files disk.new index_file) (λ f. f.most ≤ 128)) }
+    ensures bare_small { IfOk result (λ found. D.tells → (store : SmallStore) → found.small ≡ Some store → store_len store ≤ 128 → IsThere (D.files disk.new small_file) (λ f. f.most ≤ 128)) }
     ensures damaged { IfErr result (λ error. IfDamaged error (λ name place found. D.tells → BreaksFolder (as_read (D.files disk.old)) name place found)) }
     // Such a folder isn't sound, at least where its index has no more entries than a segment may have.
     ensures refuses { IfErr result (λ error. IfDamaged error (λ name place found. D.tells → IsShort (D.files disk.old) → (lines : ℕ → List Message) → SoundBy (as_read (D.files disk.old)) lines → ⊥)) }
     // Without a fault an error comes before anything else than syncs and reads was done.
     ensures reads { IfErr result (λ error. D.tells → (error ≡ back_fault → ⊥) → ReadsSame (D.files disk.old) (D.files disk.new)) }
     ensures only_reads { IfErr result (λ error. D.tells → (error ≡ back_fault → ⊥) → LeavesOnly D.moment D.left disk.old disk.new (IsImage (D.files disk.old))) }
+    // No file is there that wasn't there before, whichever the answer.
+    ensures no_new { D.tells → (n : Name) → D.files disk.old n ≡ None → D.files disk.new n ≡ None }
     // A crash at any moment leaves what it could have left before, with the small store that was to be removed or without.
     ensures any_moment { D.tells → LeavesOnly D.moment D.left disk.old disk.new (IsImageOrWithout (D.files disk.old)) }
     // If that held some messages before, it holds them, whichever the answer.
@@ -78,11 +88,13 @@ fn open_queue<D: Disk>(alloc: Global, disk: &mut D) -> Result<FoundQueue, BackEr
     ensures name { IfOk result (λ found. name_of found.segment ≡ index_file) }
     ensures made { IfOk result (λ found. (found.made ≡ true → IsOpen found.segment) × (found.made ≡ false → IsVacant found.segment)) }
     ensures store_name { IfOk result (λ found. (g : Gate) → gate_in found.small ≡ Some g → g.name ≡ small_file) }
+    ensures count { IfOk result (λ found. D.tells → length (contents_of (as_read (D.files disk.old)) index_file) ≡ entry_len * count_of found.segment) }
     ensures segment { IfOk result (λ found. D.tells → IsSegment found.segment (D.files disk.new index_file)) }
     ensures small { IfOk result (λ found. D.tells → IsSmallOf (gate_in found.small) (D.files disk.new small_file)) }
     ensures damaged { IfErr result (λ error. IfDamaged error (λ name place found. D.tells → BreaksFolder (as_read (D.files disk.old)) name place found)) }
     ensures reads { IfErr result (λ error. D.tells → (error ≡ back_fault → ⊥) → ReadsSame (D.files disk.old) (D.files disk.new)) }
     ensures only_reads { IfErr result (λ error. D.tells → (error ≡ back_fault → ⊥) → LeavesOnly D.moment D.left disk.old disk.new (IsImage (D.files disk.old))) }
+    ensures no_new { D.tells → (n : Name) → D.files disk.old n ≡ None → D.files disk.new n ≡ None }
     ensures any_moment { D.tells → LeavesOnly D.moment D.left disk.old disk.new (IsImageOrWithout (D.files disk.old)) }
     ensures cause { CausedOf back_fault (D.faults disk.old) (D.faults disk.new) result }
     ensures later { D.moment disk.old ≤ D.moment disk.new }
@@ -123,6 +135,7 @@ fn read_queue<D: Disk>(
     ensures told { IfOk result (λ found. found.made ≡ index) }
     ensures made { IfOk result (λ found. (found.made ≡ true → IsOpen found.segment) × (found.made ≡ false → IsVacant found.segment)) }
     ensures store_name { IfOk result (λ found. (g : Gate) → gate_in found.small ≡ Some g → g.name ≡ small_file) }
+    ensures count { IfOk result (λ found. D.tells → length (contents_of (as_read (D.files disk.old)) index_file) ≡ entry_len * count_of found.segment) }
     ensures segment { IfOk result (λ found. D.tells → IsSegment found.segment (D.files disk.old index_file)) }
     ensures small { IfOk result (λ found. D.tells → IsSmallOf (gate_in found.small) (D.files disk.old small_file)) }
     ensures damaged { IfErr result (λ error. IfDamaged error (λ name place found. D.tells → BreaksFolder (as_read (D.files disk.old)) name place found)) }
@@ -156,6 +169,7 @@ fn drop_stray<D: Disk>(disk: &mut D, found: &mut FoundQueue) -> Result<(), Fault
     ensures same { (found.new.segment ≡ found.old.segment) × (found.new.held ≡ found.old.held) × (found.new.lines ≡ found.old.lines) × (found.new.made ≡ found.old.made) }
     ensures stays { found.old.made ≡ true → found.new.small ≡ found.old.small }
     ensures gone { OnOk result (found.old.made ≡ false → found.new.small ≡ None) }
+    ensures no_new { D.tells → (n : Name) → D.files disk.old n ≡ None → D.files disk.new n ≡ None }
     ensures any_moment { D.tells → LeavesOnly D.moment D.left disk.old disk.new (IsImageOrWithout (D.files disk.old)) }
     ensures cause { Caused (D.faults disk.old) (D.faults disk.new) result }
     ensures later { D.moment disk.old ≤ D.moment disk.new }

@@ -6,7 +6,7 @@ use Rattle.cq_held.specs.Held.{as_read}
 use Rattle.cq_back.proofs.Opening.{if_ok, if_err, damaged_to}
 use Rattle.cq_back.proofs.Ids.{lines_taken, lines_short}
 use Rattle.cq_back.proofs.Refused.{not_sound}
-use Rattle.cq_back.proofs.Stray.{now_holds, left_sound}
+use Rattle.cq_back.proofs.Stray.{now_holds, bare_segment, bare_store, left_sound}
 use Rattle.cq_back.proofs.open.open_folder.Goals as goal
 
 pub returns-clause-now : goal.returns-clause-now
@@ -33,3 +33,12 @@ returns-clause-matched g c = if_ok c.open_queue.result _ _ (λ found taken. take
 
 pub returns-clause-short : goal.returns-clause-short
 returns-clause-short g c = if_ok c.open_queue.result _ _ (λ found taken. lines_short found.held.items found.lines taken.matched) c.open_queue.ensures.taken
+
+pub returns-clause-few : goal.returns-clause-few
+returns-clause-few g c = if_ok c.open_queue.result _ _ (λ found taken. found.segment.few) c.open_queue.ensures.taken
+
+pub returns-clause-bare_index : goal.returns-clause-bare_index
+returns-clause-bare_index g c = bare_segment g.D.Disk.tells c.open_queue.result (g.D.Disk.files c.open_queue.new.disk) c.open_queue.ensures.settled c.open_queue.ensures.segment
+
+pub returns-clause-bare_small : goal.returns-clause-bare_small
+returns-clause-bare_small g c = bare_store g.D.Disk.tells c.open_queue.result (g.D.Disk.files c.open_queue.new.disk) c.open_queue.ensures.settled c.open_queue.ensures.small

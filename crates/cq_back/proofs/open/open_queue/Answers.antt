@@ -1,17 +1,18 @@
-use Rattle.std.proofs.Common.{sym, ◌∙◌, subst, List, Option}
+use Rattle.std.proofs.Common.{◌≡◌, ◌*◌, length, sym, ◌∙◌, subst, List, Option}
 use Rattle.cq_disk.specs.declared.name.Name.{Name}
 use Rattle.cq_disk.specs.Call.{Image}
 use Rattle.cq_disk.specs.File.{File}
 use Rattle.cq_index.specs.declared.segment.Segment.{Segment}
+use Rattle.cq_index.specs.Codec.{entry_len}
 use Rattle.cq_index.specs.Segments.{count_of, IsOpen, IsVacant}
 use Rattle.cq_journal.specs.declared.lines.Line.{Line}
 use Rattle.cq_journal.specs.History.{opened_in}
-use Rattle.cq_held.specs.Held.{as_read}
+use Rattle.cq_held.specs.Held.{as_read, contents_of}
 use Rattle.cq_held.specs.Steady.{SoundBy}
 use Rattle.cq_back.specs.declared.found.HeldEntry.{HeldEntry}
 use Rattle.cq_back.specs.Read.{len_in, AreHeld, AreTaken, AreWithin}
 use Rattle.cq_back.specs.Found.{BreaksFolder}
-use Rattle.cq_back.specs.Folder.{IsWithoutStray}
+use Rattle.cq_back.specs.Folder.{index_file, IsWithoutStray}
 use Rattle.cq_back.proofs.Opening.{damaged_to, same_files, no_error_of}
 use Rattle.cq_back.proofs.Runs.{reads_are, one_queue, read_run, reads_run, removed_run}
 use Rattle.cq_back.proofs.Stray.{without_sound, still_named, still_within}
@@ -110,3 +111,19 @@ pub returns-in-Ok-drop_stray-clause-store_name : goal.returns-in-Ok-drop_stray-c
 returns-in-Ok-drop_stray-clause-store_name g c =
     let e = c.in-Ok-drop_stray.ensures in
     still_named c.in-Ok-read_queue.found.made c.in-Ok-read_queue.found.small c.drop_stray.new.found.small e.stays e.gone c.in-Ok-read_queue.ensures.store_name
+
+pub returns-in-Ok-drop_stray-clause-count : goal.returns-in-Ok-drop_stray-clause-count
+returns-in-Ok-drop_stray-clause-count g c = λ told.
+    let d = g.D.Disk in
+    subst (λ (segment : Segment). length (contents_of (as_read (d.files c.args.disk.now)) index_file) ≡ entry_len * count_of segment) (sym c.in-Ok-drop_stray.ensures.same.0)
+    (subst (λ (image : Image). length (contents_of image index_file) ≡ entry_len * count_of c.in-Ok-read_queue.found.segment) (reads_are (d.files c.args.disk.now) (d.files c.sync_all.new.disk) (c.in-Ok.ensures.reads told no_error_of))
+    (c.in-Ok-read_queue.ensures.count told))
+
+pub returns-in-Err-read_queue-clause-no_new : goal.returns-in-Err-read_queue-clause-no_new
+returns-in-Err-read_queue-clause-no_new g c = λ told n none. c.in-Err-read_queue.ensures.files told n ∙ c.in-Ok.ensures.no_new told n none
+
+pub returns-in-Ok-drop_stray-clause-no_new : goal.returns-in-Ok-drop_stray-clause-no_new
+returns-in-Ok-drop_stray-clause-no_new g c = λ told n none. c.in-Ok-drop_stray.ensures.no_new told n (c.in-Ok-read_queue.ensures.files told n ∙ c.in-Ok.ensures.no_new told n none)
+
+pub returns-clause-no_new : goal.returns-clause-no_new
+returns-clause-no_new g c = λ told n none. c.in-Err-drop_stray.ensures.no_new told n (c.in-Ok-read_queue.ensures.files told n ∙ c.in-Ok.ensures.no_new told n none)

@@ -1,15 +1,17 @@
-use Rattle.std.proofs.Common.{Option, ◌∙◌, subst}
+use Rattle.std.proofs.Common.{◌≡◌, ◌*◌, Option, length, sym, ◌∙◌, ap, subst}
 use Rattle.cq_disk.specs.declared.name.Name.{Name}
 use Rattle.cq_disk.specs.File.{File}
 use Rattle.cq_disk.specs.Moments.{quiet_then}
 use Rattle.cq_gate.specs.Format.{IsGated}
+use Rattle.cq_index.specs.declared.segment.Segment.{Segment}
+use Rattle.cq_index.specs.Codec.{entry_len}
 use Rattle.cq_index.specs.Segments.{count_of}
-use Rattle.cq_held.specs.Held.{as_read, contents_of}
+use Rattle.cq_held.specs.Held.{as_read, bytes_in, contents_of}
 use Rattle.cq_back.specs.Folder.{index_file, small_file, file_bytes}
 use Rattle.cq_back.specs.Read.{IsRead, BreaksFirst}
 use Rattle.cq_back.specs.Found.BreaksFolder.{InEntry}
 use Rattle.cq_back.proofs.Opening.{same_files, damaged_to}
-use Rattle.cq_back.proofs.Sounds.{sound_by}
+use Rattle.cq_back.proofs.Sounds.{content_bytes, sound_by}
 use Rattle.cq_back.proofs.open.read_queue.Goals as goal
 
 pub returns-in-Ok-clause-sound : goal.returns-in-Ok-clause-sound
@@ -47,3 +49,8 @@ returns-in-Err-clause-any_moment g c = λ told.
     quiet_then d.moment d.left d.files only c.args.disk.now c.open_small.new.disk c.read_messages.new.disk
     (quiet_then d.moment d.left d.files only c.args.disk.now c.open_index.new.disk c.open_small.new.disk (c.in_ok-segment.ensures.any_moment told) (c.in_ok-segment.ensures.files told) (c.in_ok-small.ensures.any_moment told))
     (λ n. c.in_ok-small.ensures.files told n ∙ c.in_ok-segment.ensures.files told n) (c.in-Err.ensures.any_moment told)
+
+pub returns-in-Ok-clause-count : goal.returns-in-Ok-clause-count
+returns-in-Ok-clause-count g c = λ told.
+    let files = g.D.Disk.files c.args.disk.now in
+    subst (λ (segment : Segment). length (contents_of (as_read files) index_file) ≡ entry_len * count_of segment) (sym c.in-Ok.ensures.same) (ap length (content_bytes (bytes_in (files index_file))) ∙ (c.in_ok-segment.ensures.index told).len)
