@@ -1,5 +1,5 @@
 -- What the opened files of a folder tell.
-use Rattle.std.proofs.Common.{◌≡◌, ◌⊎◌, inl, inr, ⊎_elim, ℕ, ◌+◌, ◌*◌, ◌-◌, ◌<◌, Bool, true, false, List, [], Option, Some, None, Result, Ok, Err, IfErr, OnOk, OnErr, Contains, IfSome, IsSome, MatchOption, length, refl, sym, ◌∙◌, ap, subst, arith}
+use Rattle.std.proofs.Common.{◌≡◌, ◌⊎◌, inl, inr, ⊎_elim, ℕ, ◌+◌, ◌*◌, ◌-◌, ◌<◌, Bool, true, false, List, [], Option, Some, None, Result, Ok, Err, IfOk, IfErr, OnOk, OnErr, Contains, IfSome, IsSome, MatchOption, length, refl, sym, ◌∙◌, ap, subst, arith}
 use Rattle.std.specs.Prelude.{◌↔◌, slice_index}
 use Rattle.std.proofs.lemmas.Bool.{false≢true, cases_Bool}
 use Rattle.std.specs.BTreeMap.{is_at}
@@ -30,7 +30,9 @@ use Rattle.cq_index.specs.Opened.{IsIndex}
 use Rattle.cq_index.specs.Segments.{name_of, count_of, present_of, IsVacant, IsSegment, IsThereGate, Knows}
 use Rattle.cq_index.proofs.Entries.{entry_in}
 use Rattle.cq_held.specs.Held.{bytes_in, content_of}
-use Rattle.cq_back.specs.Folder.{index_file, small_file, IsSettled, file_bytes, IsStray, IsImageOrWithout}
+use Rattle.cq_held.proofs.Images.{at_name}
+use Rattle.cq_held.specs.Folder.{IsSettled}
+use Rattle.cq_back.specs.Folder.{index_file, small_file, file_bytes, IsStray, IsImageOrWithout}
 use Rattle.cq_back.specs.declared.error.BackError.{BackError}
 use Rattle.cq_back.specs.declared.error.BackError.TheVariants.{Fault, Memory, Damaged}
 use Rattle.cq_back.specs.Read.{IsIndexOf, IsSmallOf, IsLacking, IsBodyAt, IfDamaged, Breaks, Misfits, gate_in, holds_id, piece, seen_of}
@@ -211,6 +213,12 @@ removed : {T E : Type 0} → T → (result : Result (Unit {0}) E) (name : Name) 
 removed told (Ok v) name old new ok fault = record { this = inl (ok told).this; others = (ok told).others }
 removed told (Err e) name old new ok fault = fault told
 
+-- no file is there that wasn't there before
+pub none_removed : {T E : Type 0} → T → (result : Result (Unit {0}) E) (name : Name) (old new : Name → Option File) → OnOk result (T → Becomes name None old new) → OnErr result (T → BecomesOrNot name None old new) → (n : Name) → old n ≡ None → new n ≡ None
+none_removed told result name old new ok fault =
+    let step = removed told result name old new ok fault in
+    at_name (λ n. old n ≡ None → new n ≡ None) name (λ none. ⊎_elim (λ gone. gone) (λ same. same ∙ none) step.this) (λ n other none. step.others n other ∙ none)
+
 gone_image : (slot : Option File) (c : Option (List ℕ)) → slot ≡ None → IsImageOf slot c → c ≡ None
 gone_image None None is image = refl
 gone_image None (Some c) is image = absurd image
@@ -237,6 +245,14 @@ module _ {D : Type 0} (moment : D → ℕ) (left : D → ℕ → ℕ → Image �
 pub if_err : {T E : Type 0} (result : Result T E) (P Q : E → Type 0) → ((e : E) → P e → Q e) → IfErr result P → IfErr result Q
 if_err (Ok v) P Q step has = tt
 if_err (Err e) P Q step has = step e has
+
+pub if_ok : {T E : Type 0} (result : Result T E) (P Q : T → Type 0) → ((v : T) → P v → Q v) → IfOk result P → IfOk result Q
+if_ok (Ok v) P Q step has = step v has
+if_ok (Err e) P Q step has = tt
+
+pub if_ok_with : {T E : Type 0} (result : Result T E) (A : Type 0) (P Q : T → Type 0) → ((v : T) → A → P v → Q v) → OnOk result A → IfOk result P → IfOk result Q
+if_ok_with (Ok v) A P Q step all has = step v all has
+if_ok_with (Err e) A P Q step all has = tt
 
 -- one error, whatever a value would be
 pub err_of : {T S E : Type 0} (fault e : E) → Path (Result T E) (Err e) (Err fault) → Path (Result S E) (Err e) (Err fault)

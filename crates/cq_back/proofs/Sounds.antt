@@ -20,7 +20,7 @@ use Rattle.cq_held.specs.Folder.{IsFormedAs}
 use Rattle.cq_held.specs.Steady.{IsIn, SoundBy}
 use Rattle.cq_back.specs.declared.found.HeldEntry.{HeldEntry}
 use Rattle.cq_back.specs.Folder.{index_file, small_file, IsOneQueue, file_bytes, bytes_of}
-use Rattle.cq_back.specs.Read.{IsRead}
+use Rattle.cq_back.specs.Read.{IsRead, AreTaken}
 use Rattle.cq_back.proofs.Reading.{opened_messages, opened_none}
 
 is_in_has : (ms : List Message) (m : Message) → IsIn ms m → has_id ms m.id ≡ true
@@ -71,7 +71,7 @@ module _ (files : Name → Option File) (one : IsOneQueue files) where
       (λ e. subst (λ (m : Name). IsGated (kind_byte m.kind) f.reads) (sym e) (subst (λ (o : Option File). IsGated 2 (file_bytes o)) (sym (ap files e) ∙ is) small))
       (one n (subst HasFile (sym is) tt))
 
-  module _ (count : ℕ) (held : List HeldEntry) (lines : List Line) (len : length (content (file_bytes (files index_file))) ≡ entry_len * count) (r : IsRead (contents_of (as_read files)) (file_bytes (files index_file)) count held lines) where
+  module _ (count : ℕ) (held : List HeldEntry) (lines : List Line) (len : length (content (file_bytes (files index_file))) ≡ entry_len * count) (r : IsRead (contents_of (as_read files)) (file_bytes (files index_file)) count held lines) (t : AreTaken count held lines) where
     whole : AreEntries (contents_of (as_read files) index_file) r.seen
     whole = subst (λ (c : List ℕ). AreEntries c r.seen) ((let e = ap (λ (n : ℕ). take n (content (file_bytes (files index_file)))) (sym len) in e ∙ take-length (content (file_bytes (files index_file)))) ∙ sym (content_bytes (bytes_in (files index_file)))) r.entries
 
@@ -81,7 +81,7 @@ module _ (files : Name → Option File) (one : IsOneQueue files) where
       entries = segments;
       most = 1;
       none = later;
-      each = subst (Zip (IsMessageOf (contents_of (as_read files)) 0) _) (sym (opened_messages lines r.queues)) r.each;
+      each = subst (Zip (IsMessageOf (contents_of (as_read files)) 0) _) (sym (opened_messages lines t.queues)) r.each;
     }
       where
         segments : (n : ℕ) → AreEntries (contents_of (as_read files) (index_name 0 n)) (seen_at r.seen n)
@@ -96,15 +96,15 @@ module _ (files : Name → Option File) (one : IsOneQueue files) where
       entries = λ n. no_content (suc q) n (other_queue q n);
       most = 0;
       none = λ n le. refl;
-      each = subst (Zip (IsMessageOf (contents_of (as_read files)) (suc q)) []) (sym (opened_none lines (suc q) r.queues (λ e. absurd (omega (arith, e))))) tt;
+      each = subst (Zip (IsMessageOf (contents_of (as_read files)) (suc q)) []) (sym (opened_none lines (suc q) t.queues (λ e. absurd (omega (arith, e))))) tt;
     }
 
     ids_once : (q : ℕ) → HasDistinctIds (opened_in q lines)
-    ids_once zero = subst HasDistinctIds (sym (opened_messages lines r.queues)) r.once
-    ids_once (suc q) = subst HasDistinctIds (sym (opened_none lines (suc q) r.queues (λ e. absurd (omega (arith, e))))) tt
+    ids_once zero = subst HasDistinctIds (sym (opened_messages lines t.queues)) t.once
+    ids_once (suc q) = subst HasDistinctIds (sym (opened_none lines (suc q) t.queues (λ e. absurd (omega (arith, e))))) tt
 
     none_in : (q : ℕ) (m : Message) → IsIn (opened_in (suc q) lines) m → ⊥
-    none_in q m is = subst (λ (ms : List Message). IsIn ms m) (opened_none lines (suc q) r.queues (λ e. absurd (omega (arith, e)))) is
+    none_in q m is = subst (λ (ms : List Message). IsIn ms m) (opened_none lines (suc q) t.queues (λ e. absurd (omega (arith, e)))) is
 
     bodies : (q p : ℕ) (m k : Message) → IsIn (opened_in q lines) m → IsIn (opened_in p lines) k → m.id ≡ k.id → m.body ≡ k.body
     bodies zero zero m k a b same = same_body (opened_in 0 lines) m k (ids_once 0) a b same

@@ -1,24 +1,37 @@
 -- Small stores whose index isn't there hold nothing: with or without them, a folder holds the same.
-use Rattle.std.proofs.Common.{◌≡◌, ◌⊎◌, inl, inr, ⊎_elim, ℕ, zero, suc, ◌≤◌, List, [], ◌∷◌, ◌++◌, Option, Some, None, Result, Ok, Err, IfOk, OnOk, length, refl, sym, ap, subst, arith}
+use Rattle.std.proofs.Common.{◌≡◌, ◌⊎◌, inl, inr, ⊎_elim, ℕ, zero, suc, ◌≤◌, ◌<◌, List, [], ◌∷◌, ◌++◌, Bool, true, false, Option, Some, None, Result, Ok, Err, IfOk, OnOk, IsSome, length, refl, sym, ◌∙◌, ap, subst, arith}
 use Rattle.std.specs.List.{AllByRecursion}
+use Rattle.std.proofs.lemmas.Bool.{false≢true}
 use Rattle.cq_disk.specs.declared.name.Name.{Name}
 use Rattle.cq_disk.specs.declared.name.Kind.TheVariants.{Index, Small}
 use Rattle.cq_disk.specs.Call.{Image}
 use Rattle.cq_disk.specs.File.{File}
-use Rattle.cq_disk.specs.Files.{IsImageOf}
-use Rattle.cq_disk.specs.FileLemmas.{settled_only}
+use Rattle.cq_disk.specs.Files.{IsImageOf, IsThere}
+use Rattle.cq_disk.specs.There.{there_step}
+use Rattle.cq_gate.specs.declared.gate.Gate.{Gate}
+use Rattle.cq_gate.specs.Gate.{IsGate}
 use Rattle.cq_entry.specs.declared.entry.Entry.{Entry}
 use Rattle.cq_entry.specs.declared.entry.Seen.{Seen}
 use Rattle.cq_small.specs.Record.{StandsIn}
-use Rattle.cq_small.specs.Store.{small_name}
+use Rattle.cq_small.specs.declared.store.SmallStore.{SmallStore}
+use Rattle.cq_small.specs.Store.{small_name, gate_of}
+use Rattle.cq_small.specs.Store.{len_of as store_len}
+use Rattle.cq_index.specs.declared.segment.Segment.{Segment}
 use Rattle.cq_index.specs.Places.{index_name}
+use Rattle.cq_index.specs.Segments.{count_of, gate_len, IsOpen, IsVacant, IsSegment}
+use Rattle.cq_index.specs.Segments.{Holds as SegmentHolds, len_of as segment_len}
 use Rattle.cq_journal.specs.declared.event.Message.{Message}
 use Rattle.cq_journal.specs.History.{opened_in}
 use Rattle.cq_held.specs.Held.{AreEntries, present, Spot, spots, below, Zip, IsMessageOf, HoldsIn, as_read, bytes_in, contents_of, content_of}
-use Rattle.cq_held.specs.Folder.{IsFormedAs, HasContent}
+use Rattle.cq_held.specs.Folder.{IsFormedAs, IsSettled}
 use Rattle.cq_held.specs.Steady.{SoundBy}
+use Rattle.cq_held.specs.Standing.{StillHolds}
+use Rattle.cq_held.proofs.Kept.{at_rest}
 use Rattle.cq_back.specs.declared.found.FoundQueue.{FoundQueue}
-use Rattle.cq_back.specs.Folder.{IsSettled, IsImageOrWithout, IsWithoutStray, StillHolds}
+use Rattle.cq_back.specs.declared.found.HeldEntry.{HeldEntry}
+use Rattle.cq_back.specs.Folder.{index_file, small_file, IsImageOrWithout, IsWithoutStray}
+use Rattle.cq_back.specs.Read.{gate_in, len_in, AreWithin, IsSmallOf}
+use Rattle.cq_back.proofs.Opening.{if_ok_with}
 
 -- each content is as it was, but that those of small stores whose index is empty may be others
 abbrev IsLess : (Name → List ℕ) → (Name → List ℕ) → Type 0
@@ -86,29 +99,36 @@ without_sound old new lines step sound = record {
   are = sound.are;
 }
 
--- files that are all on the disk hold what they read
-settled_still : (slot : Option File) (n : Name) (c : Option (List ℕ)) → IsSettled slot → IsFormedAs n (bytes_in slot) → IsImageOf slot c → HasContent n c (content_of (bytes_in slot))
-settled_still None n None all formed image = record { is = refl; formed = tt }
-settled_still None n (Some b) all formed image = absurd image
-settled_still (Some f) n None all formed image = absurd image
-settled_still (Some f) n (Some b) all formed image =
-    let same : b ≡ f.reads = settled_only f.reads b (subst (λ (g : File). IsImageOf (Some g) (Some b)) (all f refl) image) in
-    subst (λ (l : List ℕ). HasContent n (Some l) (content_of (Some f.reads))) (sym same) (record { is = refl; formed = formed })
-
-settled_holds : (files : Name → Option File) (lines : ℕ → List Message) → ((n : Name) → IsSettled (files n)) → SoundBy (as_read files) lines → StillHolds files lines
-settled_holds files lines all sound = record {
-  contents = contents_of (as_read files);
-  still = record { each = λ n c image. settled_still (files n) n c (all n) (sound.formed n) image };
-  holds = sound.held;
-  are = sound.are;
-}
-
+-- and what they hold they still hold, whatever a crash leaves
 pub now_holds : {E : Type 0} (T One : Type 0) (result : Result FoundQueue E) (files : Name → Option File) → IfOk result (λ found. T → One → SoundBy (as_read files) (λ q. opened_in q found.lines)) → OnOk result (T → (n : Name) → IsSettled (files n))
     → IfOk result (λ found. T → One → StillHolds files (λ q. opened_in q found.lines))
-now_holds T One (Ok found) files sound all = λ told one. settled_holds files (λ q. opened_in q found.lines) (all told) (sound told one)
+now_holds T One (Ok found) files sound all = λ told one. at_rest files (λ q. opened_in q found.lines) (all told) (sound told one)
 now_holds T One (Err e) files sound all = tt
 
--- what a crash leaves, with or without stray small stores
+-- ---- files that are all on the disk
+
+short_most : (slot : Option File) (gate : Gate) → IsSettled slot → IsThere slot (IsGate gate) → gate.len ≤ 128 → IsThere slot (λ f. f.most ≤ 128)
+short_most slot gate all is short = record {
+  is_some = is.is_some;
+  has = λ f was.
+      let most : f.most ≡ length f.reads = ap (λ (g : File). g.most) (all f was) in
+      let len = (is.has f was).len_is in
+      omega (arith, most, len, short);
+}
+
+segment_most : (segment : Segment) (slot : Option File) (gate : Option Gate) → segment.gate ≡ gate → IsSegment segment slot → IsSettled slot → IsSome gate → gate_len gate ≤ 128 → IsThere slot (λ f. f.most ≤ 128)
+segment_most segment slot None is of_ all none short = absurd (false≢true none)
+segment_most segment slot (Some gate) is of_ all some short = short_most slot gate all (there_step slot (SegmentHolds gate segment.count segment.present.items) (IsGate gate) (λ f holds. holds.is) (of_.there gate is)) short
+
+module _ {E : Type 0} (T : Type 0) (result : Result FoundQueue E) (files : Name → Option File) (all : OnOk result (T → (n : Name) → IsSettled (files n))) where
+  pub bare_segment : IfOk result (λ found. T → IsSegment found.segment (files index_file)) → IfOk result (λ found. T → IsOpen found.segment → segment_len found.segment ≤ 128 → IsThere (files index_file) (λ f. f.most ≤ 128))
+  bare_segment of_ = if_ok_with result _ _ _ (λ found settled_ is told open_ short. segment_most found.segment (files index_file) found.segment.gate refl (is told) (settled_ told index_file) open_ short) all of_
+
+  pub bare_store : IfOk result (λ found. T → IsSmallOf (gate_in found.small) (files small_file)) → IfOk result (λ found. T → (store : SmallStore) → found.small ≡ Some store → store_len store ≤ 128 → IsThere (files small_file) (λ f. f.most ≤ 128))
+  bare_store of_ = if_ok_with result _ _ _ (λ found settled_ is told store same short. short_most (files small_file) (gate_of store) (settled_ told small_file) ((is told).there (gate_of store) (ap gate_in same)) short) all of_
+
+-- ---- what a crash leaves, with or without stray small stores
+
 module _ (files : Name → Option File) (lines : ℕ → List Message) (holds : StillHolds files lines) (image : Image) (is : IsImageOrWithout files image) where
   nothing : (n : Name) → files n ≡ None → holds.contents n ≡ []
   nothing n none = sym (holds.still.each n None (subst (λ (o : Option File). IsImageOf o None) (sym none) tt)).is
@@ -120,3 +140,18 @@ module _ (files : Name → Option File) (lines : ℕ → List Message) (holds : 
         (λ n. ⊎_elim (λ there. inl (holds.still.each n (image n) there).is) (λ gone. inr (gone.0.kind, nothing (index_name n.queue n.number) gone.0.alone)) (is n)) q (lines q) (holds.holds q);
     are = holds.are;
   }
+
+-- ---- a store that stayed, or went
+
+pub still_named : (made : Bool) (old new : Option SmallStore) → (made ≡ true → new ≡ old) → (made ≡ false → new ≡ None) → ((g : Gate) → gate_in old ≡ Some g → g.name ≡ small_file) → (g : Gate) → gate_in new ≡ Some g → g.name ≡ small_file
+still_named true old new stays gone named g is = named g (sym (ap gate_in (stays refl)) ∙ is)
+still_named false old new stays gone named g is = absurd (none_some (sym (ap gate_in (gone refl)) ∙ is))
+  where
+    none_some : None ≡ Some g → ⊥
+    none_some e = cc
+
+-- where it went, no entry is held
+pub still_within : (made : Bool) (segment : Segment) (old new : Option SmallStore) (held : List HeldEntry) → (made ≡ true → new ≡ old) → (made ≡ false → IsVacant segment) → AllByRecursion (λ h. h.at < count_of segment) held → AreWithin (len_in old) held → AreWithin (len_in new) held
+still_within true segment old new held stays vacant below within = subst (λ (small : Option SmallStore). AreWithin (len_in small) held) (sym (stays refl)) within
+still_within false segment old new [] stays vacant below within = tt
+still_within false segment old new (h ∷ hs) stays vacant below within = let none = (segment.vacant (vacant refl)).0 in let lt = below.0 in absurd (omega (arith, none, lt))

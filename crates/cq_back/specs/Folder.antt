@@ -3,16 +3,13 @@ use Rattle.std.specs.Prelude.{length, ◌≤◌, ◌*◌, ◌≡◌, ◌⊎◌, 
 use Rattle.cq_disk.specs.declared.name.Name.{Name}
 use Rattle.cq_disk.specs.declared.name.Kind.TheVariants.{Small}
 use Rattle.cq_disk.specs.Call.{Image}
-use Rattle.cq_disk.specs.File.{File, settled}
+use Rattle.cq_disk.specs.File.{File}
 use Rattle.cq_disk.specs.Files.{HasFile, IsImageOf}
 use Rattle.cq_gate.specs.Format.{content}
 use Rattle.cq_index.specs.Codec.{entry_len, most_entries}
 use Rattle.cq_index.specs.Places.{index_name}
 use Rattle.cq_small.specs.Store.{small_name}
-use Rattle.cq_journal.specs.declared.event.Message.{Message}
-use Rattle.cq_held.specs.Held.{Holds, bytes_in}
-use Rattle.cq_held.specs.Folder.{Still}
-use Rattle.cq_held.specs.Steady.{AreSound}
+use Rattle.cq_held.specs.Held.{bytes_in}
 
 -- the two files
 abbrev pub index_file : Name
@@ -24,10 +21,6 @@ small_file = small_name 0 0
 -- no other file is there
 abbrev pub IsOneQueue : (Name → Option File) → Type 0
 IsOneQueue files = (n : Name) → HasFile (files n) → (n ≡ index_file) ⊎ (n ≡ small_file)
-
--- a file that is there is all on the disk
-abbrev pub IsSettled : Option File → Type 0
-IsSettled slot = (f : File) → slot ≡ Some f → f ≡ settled f.reads
 
 -- the bytes of a file, and none where it isn't there
 abbrev pub bytes_of : Option (List ℕ) → List ℕ
@@ -57,10 +50,3 @@ IsImageOrWithout files image = (n : Name) → IsImageOf (files n) (image n) ⊎ 
 -- each file is as it was, but that stray small stores may be gone
 abbrev pub IsWithoutStray : (Name → Option File) → (Name → Option File) → Type 0
 IsWithoutStray old new = (n : Name) → (new n ≡ old n) ⊎ (IsStray old n × (new n ≡ None))
-
--- whatever a crash leaves now holds these messages, which are sound
-pub record StillHolds (files : Name → Option File) (lines : ℕ → List Message) : Type 0 where
-  pub contents : Name → List ℕ
-  pub still : Still files contents
-  pub holds : Holds contents lines
-  pub are : AreSound lines

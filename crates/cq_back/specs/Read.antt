@@ -12,15 +12,15 @@ use Rattle.cq_entry.specs.declared.entry.Entry.{Entry}
 use Rattle.cq_entry.specs.declared.entry.EntryKind.TheVariants.{Small, Shared}
 use Rattle.cq_entry.specs.declared.entry.Seen.{Seen}
 use Rattle.cq_entry.specs.declared.entry.Seen.TheVariants.{Gone, Present}
-use Rattle.cq_entry.specs.Entry.{IsPresent}
+use Rattle.cq_entry.specs.Entry.{IsEntry, IsPresent}
 use Rattle.cq_small.specs.Record.{StandsIn}
 use Rattle.cq_small.specs.declared.store.SmallStore.{SmallStore}
 use Rattle.cq_small.specs.Store.{gate_of}
 use Rattle.cq_index.specs.Codec.{entry_len}
 use Rattle.cq_index.specs.Places.{Lists, entry_at, place_of}
+use Rattle.cq_index.specs.Segments.{gate_len}
 use Rattle.cq_journal.specs.declared.event.Message.{Message}
 use Rattle.cq_journal.specs.declared.lines.Line.{Line}
-use Rattle.cq_journal.specs.History.{has_id}
 use Rattle.cq_journal.proofs.Lists.{HasDistinctIds}
 use Rattle.cq_held.specs.Held.{AreEntries, present, spots, Zip, IsMessageOf, contents_of}
 use Rattle.cq_back.specs.declared.found.HeldEntry.{HeldEntry}
@@ -46,6 +46,10 @@ holds_id held id = list_any (λ h. h.entry.id == id) held
 abbrev pub gate_in : Option SmallStore → Option Gate
 gate_in None = None
 gate_in (Some store) = Some (gate_of store)
+
+-- the length of a store's file, and none where no store is there
+abbrev pub len_in : Option SmallStore → ℕ
+len_in small = gate_len (gate_in small)
 
 -- the store is that of the folder, and its file is as its own calls left it; it isn't there where no store is
 pub record IsSmallOf (gate : Option Gate) (slot : Option File) : Type 0 where
@@ -80,23 +84,43 @@ pub record AreHeld (image : Image) (held : List HeldEntry) (lines : List Line) :
   pub places : AllByRecursion (IsStored (bytes_of (image index_file))) held
   pub each : Zip (IsMessageOf (contents_of image) 0) (spots 0 (entries_of held)) (messages lines)
 
--- the first entries of an index, those of them that are present, and their messages, no id twice
+-- the entry is valid, and the line has its id, and a body of its length, which is at most 1,048,576
+pub record IsLineOf (h : HeldEntry) (l : Line) : Type 0 where
+  pub valid : IsEntry h.entry
+  pub id : l.id ≡ h.entry.id
+  pub len : length l.body ≡ h.entry.len
+
+-- There are as many lines as entries, and at each place the line is the entry's.
+abbrev pub AreMatched : List HeldEntry → List Line → Type 0
+AreMatched held lines = Zip IsLineOf held lines
+
+-- each entry's record lies within this length
+abbrev pub AreWithin : ℕ → List HeldEntry → Type 0
+AreWithin len held = AllByRecursion (λ h. h.entry.place + h.entry.len + 5 ≤ len) held
+
+-- entries of the first so many places, and their lines, which are of queue 0, no id twice
+pub record AreTaken (count : ℕ) (held : List HeldEntry) (lines : List Line) : Type 0 where
+  pub below : AllByRecursion (λ h. h.at < count) held
+  pub matched : AreMatched held lines
+  pub queues : AllByRecursion (λ l. l.queue ≡ 0) lines
+  pub once : HasDistinctIds (messages lines)
+
+-- the first entries of an index, those of them that are present, and their messages
 pub record IsRead (contents : Name → List ℕ) (file : List ℕ) (count : ℕ) (held : List HeldEntry) (lines : List Line) : Type 0 where
   pub seen : List Seen
   pub entries : AreEntries (take (entry_len * count) (content file)) seen
   pub held_are : entries_of held ≡ present seen
   pub places : AllByRecursion (IsStored file) held
   pub each : Zip (IsMessageOf contents 0) (spots 0 (present seen)) (messages lines)
-  pub queues : AllByRecursion (λ l. l.queue ≡ 0) lines
-  pub ids : (id : ℕ) → holds_id held id ≡ has_id (messages lines) id
-  pub once : HasDistinctIds (messages lines)
 
--- a present entry of a place has joined those that are held, and its message the lines
-pub record Takes (small : List ℕ) (at : ℕ) (e : Entry) (held new_held : List HeldEntry) (lines new_lines : List Line) : Type 0 where
+-- A valid entry of a place, whose record lies within a length, has joined those that are held, and its message the lines; where the files are told, its record stands there.
+pub record Takes (told : Type 0) (small : List ℕ) (len at : ℕ) (e : Entry) (held new_held : List HeldEntry) (lines new_lines : List Line) : Type 0 where
   pub body : List ℕ
+  pub body_len : length body ≡ e.len
+  pub within : e.place + e.len + 5 ≤ len
   pub kind : e.kind ≡ Small
   pub new_id : holds_id held e.id ≡ false
-  pub stands : IsBodyAt small e.place e.len body
+  pub stands : told → StandsIn small e.place body
   pub held_are : new_held ≡ held ++ record { queue = 0; segment = 0; at = at; entry = e } ∷ []
   pub lines_are : new_lines ≡ lines ++ record { queue = 0; id = e.id; body = body } ∷ []
 
@@ -120,6 +144,7 @@ pub record BreaksFirst (contents : Name → List ℕ) (file : List ℕ) (name : 
   pub held : List HeldEntry
   pub lines : List Line
   pub before : IsRead contents file at held lines
+  pub taken : AreTaken at held lines
   pub entry : Entry
   pub inside : entry_len * at + entry_len ≤ length (content file)
   pub is : IsPresent (entry_at file at) entry

@@ -1,5 +1,5 @@
 // One entry, and the record of its message.
-ghost use Rattle.std.specs.Prelude.{◌≡◌, ◌≤◌, ◌<◌, ◌+◌, MatchOption, IfOk, IfErr, OnOk, slice_index};
+ghost use Rattle.std.specs.Prelude.{◌≡◌, ◌≤◌, ◌<◌, ◌+◌, MatchOption, IfOk, IfErr, IfSome, OnOk, length, slice_index};
 ghost use Rattle.cq_disk.specs.Files.{IsImage, SameFiles};
 ghost use Rattle.cq_disk.specs.Call.{LeavesOnly, CausedOf, StruckByOf, KeepsPlan};
 ghost use Rattle.cq_entry.specs.Entry.{IsEntry, IsPresent, entry_bytes};
@@ -7,7 +7,7 @@ ghost use Rattle.cq_index.specs.Places.{entry_at, place_of};
 ghost use Rattle.cq_held.specs.Held.{as_read, contents_of};
 ghost use Rattle.cq_back.specs.declared.error.BackError.TheVariants.{Fault as back_fault, Damaged};
 ghost use Rattle.cq_back.specs.Folder.{index_file, small_file, file_bytes};
-ghost use Rattle.cq_back.specs.Read.{holds_id, gate_in, IsSmallOf, IsLacking, IsBodyAt, Takes, Breaks, IfDamaged};
+ghost use Rattle.cq_back.specs.Read.{holds_id, gate_in, len_in, IsSmallOf, IsLacking, IsBodyAt, Takes, Breaks, IfDamaged};
 
 use crate::error::BackError;
 use crate::files::INDEX;
@@ -33,7 +33,7 @@ pub(crate) fn take_in<D: Disk>(
     requires few { at < 4096 }
     requires present { D.tells → IsPresent (entry_at (file_bytes (D.files disk.old index_file)) at) entry }
     requires small { D.tells → IsSmallOf (gate_in small.old) (D.files disk.old small_file) }
-    ensures ok { OnOk result (D.tells → Takes (contents_of (as_read (D.files disk.old)) small_file) at entry held.old.items held.new.items lines.old lines.new) }
+    ensures ok { OnOk result (Takes D.tells (contents_of (as_read (D.files disk.old)) small_file) (len_in small.old) at entry held.old.items held.new.items lines.old lines.new) }
     ensures damaged { IfErr result (λ error. IfDamaged error (λ name place found. D.tells → Breaks (contents_of (as_read (D.files disk.old)) small_file) (file_bytes (D.files disk.old index_file)) held.old.items at entry name place found)) }
     ensures same { gate_in small.new ≡ gate_in small.old }
     ensures files { D.tells → SameFiles (D.files disk.old) (D.files disk.new) }
@@ -94,6 +94,7 @@ fn body_of<D: Disk>(
     requires short { len ≤ 1048576 }
     requires small { D.tells → IsSmallOf (gate_in small.old) (D.files disk.old small_file) }
     ensures body { IfOk result (λ body. D.tells → MatchOption body (IsLacking (contents_of (as_read (D.files disk.old)) small_file) place len) (λ b. IsBodyAt (contents_of (as_read (D.files disk.old)) small_file) place len b)) }
+    ensures fits { IfOk result (λ body. IfSome body (λ b. (length b ≡ len) × (place + len + 5 ≤ len_in small.old))) }
     ensures sound { IfErr result (λ error. IfDamaged error (λ name place found. ⊥)) }
     ensures same { gate_in small.new ≡ gate_in small.old }
     ensures files { D.tells → SameFiles (D.files disk.old) (D.files disk.new) }

@@ -3,12 +3,14 @@ ghost use Rattle.std.specs.Prelude.{◌≡◌, ◌≢◌, ◌⊎◌, ℕ, ◌≤
 ghost use Rattle.cq_disk.specs.declared.name.Name.{Name};
 ghost use Rattle.cq_disk.specs.Files.{IsImage, SameFiles, Becomes};
 ghost use Rattle.cq_disk.specs.Call.{LeavesOnly, Caused, CausedOf, StruckBy, StruckByOf, KeepsPlan};
+ghost use Rattle.cq_gate.specs.declared.gate.Gate.{Gate};
 ghost use Rattle.cq_gate.specs.Format.{BreaksAt, IsGated};
 ghost use Rattle.cq_index.specs.Opened.{BreaksIndex};
-ghost use Rattle.cq_index.specs.Segments.{name_of, count_of, present_of, IsSegment};
+ghost use Rattle.cq_index.specs.Segments.{name_of, count_of, present_of, IsOpen, IsVacant, IsSegment};
 ghost use Rattle.cq_held.specs.Held.{as_read};
+ghost use Rattle.cq_held.specs.Folder.{IsSettled};
 ghost use Rattle.cq_back.specs.declared.error.BackError.TheVariants.{Fault as back_fault};
-ghost use Rattle.cq_back.specs.Folder.{index_file, small_file, IsSettled, file_bytes};
+ghost use Rattle.cq_back.specs.Folder.{index_file, small_file, file_bytes};
 ghost use Rattle.cq_back.specs.Read.{IsIndexOf, IsSmallOf, IfDamaged, gate_in};
 ghost use Rattle.cq_back.specs.Found.{BreaksFile};
 
@@ -43,6 +45,8 @@ pub(crate) fn open_index<D: Disk>(
     requires absent { D.tells → there ≡ false → D.files disk.old index_file ≡ None }
     requires settled { D.tells → IsSettled (D.files disk.old index_file) }
     ensures name { IfOk result (λ segment. name_of segment ≡ index_file) }
+    ensures open { IfOk result (λ segment. there ≡ true → IsOpen segment) }
+    ensures vacant { IfOk result (λ segment. there ≡ false → IsVacant segment) }
     ensures index { IfOk result (λ segment. D.tells → IsIndexOf (count_of segment) (present_of segment) (file_bytes (D.files disk.old index_file))) }
     ensures segment { IfOk result (λ segment. D.tells → IsSegment segment (D.files disk.old index_file)) }
     ensures damaged { IfErr result (λ error. IfDamaged error (λ name place found. D.tells → BreaksFile (as_read (D.files disk.old)) index_file BreaksIndex name place found)) }
@@ -76,6 +80,7 @@ pub(crate) fn open_small<D: Disk>(
     requires there { D.tells → there ≡ true → IsSome (D.files disk.old small_file) }
     requires absent { D.tells → there ≡ false → D.files disk.old small_file ≡ None }
     requires settled { D.tells → IsSettled (D.files disk.old small_file) }
+    ensures name { IfOk result (λ small. (g : Gate) → gate_in small ≡ Some g → g.name ≡ small_file) }
     ensures formed { OnOk result (D.tells → IsGated 2 (file_bytes (D.files disk.old small_file))) }
     ensures small { IfOk result (λ small. D.tells → IsSmallOf (gate_in small) (D.files disk.old small_file)) }
     ensures damaged { IfErr result (λ error. IfDamaged error (λ name place found. D.tells → BreaksFile (as_read (D.files disk.old)) small_file (λ file at. (128 < length file) × BreaksAt 2 file at) name place found)) }

@@ -8,7 +8,7 @@ ghost use Rattle.cq_index.specs.Segments.{name_of, count_of, present_of, IsSegme
 ghost use Rattle.cq_held.specs.Held.{as_read, contents_of};
 ghost use Rattle.cq_back.specs.declared.error.BackError.TheVariants.{Fault as back_fault};
 ghost use Rattle.cq_back.specs.Folder.{index_file, small_file, file_bytes};
-ghost use Rattle.cq_back.specs.Read.{gate_in, IsSmallOf, IsIndexOf, IsRead, BreaksFirst, IfDamaged, piece, seen_of};
+ghost use Rattle.cq_back.specs.Read.{gate_in, len_in, IsSmallOf, IsIndexOf, IsRead, AreTaken, AreWithin, BreaksFirst, IfDamaged, piece, seen_of};
 
 use crate::entry::take_in;
 use crate::error::BackError;
@@ -33,6 +33,8 @@ pub(crate) fn read_messages<D: Disk>(
     requires index { D.tells → IsIndexOf (count_of segment.old) (present_of segment.old) (file_bytes (D.files disk.old index_file)) }
     requires segment { D.tells → IsSegment segment.old (D.files disk.old index_file) }
     requires small { D.tells → IsSmallOf (gate_in small.old) (D.files disk.old small_file) }
+    ensures taken { IfOk result (λ read. AreTaken (count_of segment.old) read.0.items read.1) }
+    ensures within { IfOk result (λ read. AreWithin (len_in small.old) read.0.items) }
     ensures read { IfOk result (λ read. D.tells → IsRead (contents_of (as_read (D.files disk.old))) (file_bytes (D.files disk.old index_file)) (count_of segment.old) read.0.items read.1) }
     ensures damaged { IfErr result (λ error. IfDamaged error (λ name place found. D.tells → BreaksFirst (contents_of (as_read (D.files disk.old))) (file_bytes (D.files disk.old index_file)) name place found)) }
     ensures same { segment.new ≡ segment.old }
@@ -71,8 +73,10 @@ fn read_next<D: Disk>(
     requires index { D.tells → IsIndexOf (count_of segment.old) (present_of segment.old) (file_bytes (D.files disk.old index_file)) }
     requires segment { D.tells → IsSegment segment.old (D.files disk.old index_file) }
     requires small { D.tells → IsSmallOf (gate_in small.old) (D.files disk.old small_file) }
+    ensures taken { OnOk result (AreTaken at held.old.items lines.old → AreTaken (at + 1) held.new.items lines.new) }
+    ensures within { OnOk result (AreWithin (len_in small.old) held.old.items → AreWithin (len_in small.old) held.new.items) }
     ensures read { OnOk result (D.tells → IsRead (contents_of (as_read (D.files disk.old))) (file_bytes (D.files disk.old index_file)) at held.old.items lines.old → IsRead (contents_of (as_read (D.files disk.old))) (file_bytes (D.files disk.old index_file)) (at + 1) held.new.items lines.new) }
-    ensures damaged { IfErr result (λ error. IfDamaged error (λ name place found. D.tells → IsRead (contents_of (as_read (D.files disk.old))) (file_bytes (D.files disk.old index_file)) at held.old.items lines.old → BreaksFirst (contents_of (as_read (D.files disk.old))) (file_bytes (D.files disk.old index_file)) name place found)) }
+    ensures damaged { IfErr result (λ error. IfDamaged error (λ name place found. D.tells → IsRead (contents_of (as_read (D.files disk.old))) (file_bytes (D.files disk.old index_file)) at held.old.items lines.old → AreTaken at held.old.items lines.old → BreaksFirst (contents_of (as_read (D.files disk.old))) (file_bytes (D.files disk.old index_file)) name place found)) }
     ensures same { segment.new ≡ segment.old }
     ensures same_small { gate_in small.new ≡ gate_in small.old }
     ensures files { D.tells → SameFiles (D.files disk.old) (D.files disk.new) }

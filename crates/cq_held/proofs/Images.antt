@@ -55,7 +55,7 @@ module _ (files : Name → Option File) (F : Name → List ℕ) (still : Still f
       (λ new. inr (record { each = at_name (λ n. HasContent n (image n) (grown F name bytes n)) name (subst (HasContent name (image name)) (sym grows.this) new) (λ n other. subst (HasContent n (image n)) (sym (grows.others n other)) (others n other)) }))
       (of_bytes (image name) (files name) refl on.this)
 
-settled_has : (name : Name) (bytes : List ℕ) (c : Option (List ℕ)) → IsGated (kind_byte name.kind) bytes → IsImageOf (Some (settled bytes)) c → HasContent name c (content bytes)
+pub settled_has : (name : Name) (bytes : List ℕ) (c : Option (List ℕ)) → IsGated (kind_byte name.kind) bytes → IsImageOf (Some (settled bytes)) c → HasContent name c (content bytes)
 settled_has name bytes None gated none = absurd none
 settled_has name bytes (Some b) gated image = subst (λ (x : List ℕ). HasContent name (Some x) (content bytes)) (sym (settled_only bytes b image)) (record { is = refl; formed = gated })
 

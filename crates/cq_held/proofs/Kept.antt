@@ -23,13 +23,13 @@ use Rattle.cq_journal.specs.declared.lines.Line.{Line}
 use Rattle.cq_journal.specs.History.{has_id, line, acked, opened_in}
 use Rattle.cq_journal.specs.Legal.{AreLines, StartsWithOpened, Legal}
 use Rattle.cq_journal.proofs.Laws.{distinct-line}
-use Rattle.cq_held.specs.Held.{bytes_in, as_read, contents_of, Holds, HoldsIn}
-use Rattle.cq_held.specs.Folder.{Shows, Still, HasAdded, MayHaveAdded, grown}
+use Rattle.cq_held.specs.Held.{bytes_in, as_read, content_of, contents_of, Holds, HoldsIn}
+use Rattle.cq_held.specs.Folder.{IsFormedAs, HasContent, Shows, Still, IsSettled, HasAdded, MayHaveAdded, grown}
 use Rattle.cq_held.specs.Survives.{SurvivesIn, Survives}
 use Rattle.cq_held.specs.Steady.{AreSound, SoundBy, Agrees, Steady, Agreed}
-use Rattle.cq_held.specs.Standing.{Standing, ComeNext, joined, IsSafe, Passed, confirm_at, confirm_all, IsQuiet}
+use Rattle.cq_held.specs.Standing.{StillHolds, Standing, ComeNext, joined, IsSafe, Passed, confirm_at, confirm_all, IsQuiet}
 use Rattle.cq_held.specs.Laws.{opening, KeepsStanding, KeepsSteady}
-use Rattle.cq_held.proofs.Images.{grown_grows, step_both, still_image, append_leaves, added_still, create_leaves, made_still, bare_still}
+use Rattle.cq_held.proofs.Images.{grown_grows, step_both, still_image, settled_has, append_leaves, added_still, create_leaves, made_still, bare_still}
 use Rattle.cq_held.proofs.Growth.{small_grows, index_grows, index_grows_other}
 use Rattle.cq_held.proofs.Sublists.{sublist_self}
 use Rattle.cq_held.proofs.Bodies.{survivors_sound}
@@ -125,8 +125,28 @@ stays_safe : (past : List Entry) (lines : ℕ → List Message) (stamp : ℕ) (p
 stays_safe past lines stamp p id safe q there waiting =
     safe q (ap (λ (ms : List Message). has_id ms id) (sym (append-nil (line past q))) ∙ there) (ap (λ (xs : List ℕ). contains xs id) (sym (append-nil (acked past q))) ∙ waiting)
 
+-- ---- files that are all on the disk
+
+settled_still : (slot : Option File) (n : Name) (c : Option (List ℕ)) → IsSettled slot → IsFormedAs n (bytes_in slot) → IsImageOf slot c → HasContent n c (content_of (bytes_in slot))
+settled_still None n None all formed image = record { is = refl; formed = tt }
+settled_still None n (Some b) all formed image = absurd image
+settled_still (Some f) n c all formed image = settled_has n f.reads c formed (subst (λ (g : File). IsImageOf (Some g) c) (all f refl) image)
+
+pub at_rest : (files : Name → Option File) (lines : ℕ → List Message) → ((n : Name) → IsSettled (files n)) → SoundBy (as_read files) lines → StillHolds files lines
+at_rest files lines all sound = record {
+  contents = contents_of (as_read files);
+  still = record { each = λ n c image. settled_still (files n) n c (all n) (sound.formed n) image };
+  holds = sound.held;
+  are = sound.are;
+}
+
+pub holding : (files : Name → Option File) (lines : ℕ → List Message) → StillHolds files lines → (image : Image) → IsImage files image → SoundBy image lines
+holding files lines s image is = sound_by image s.contents lines (still_image files s.contents s.still image is) s.holds s.are
+
 pub keeps_standing : KeepsStanding
 keeps_standing = record {
+  at_rest = at_rest;
+  holding = holding;
   opened = opened_stands;
   empty = λ files stamp none. opened_stands files (λ n. []) stamp [] (bare_still files none) bare_holds tt;
   no_more = λ old new past lines fewer s. record { contents = s.contents; still = record { each = λ n c image. s.still.each n c (fewer n c image) }; agreed = s.agreed };

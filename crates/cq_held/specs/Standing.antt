@@ -13,10 +13,17 @@ use Rattle.cq_journal.specs.declared.event.Event.TheVariants.{Opened, Confirmed,
 use Rattle.cq_journal.specs.declared.event.Entry.{Entry}
 use Rattle.cq_journal.specs.declared.event.Message.{Message}
 use Rattle.cq_journal.specs.History.{has_id, line, acked, settled}
-use Rattle.cq_held.specs.Held.{AreEntries, present, Zip, spots, IsMessageOf}
+use Rattle.cq_held.specs.Held.{AreEntries, present, Zip, spots, IsMessageOf, Holds}
 use Rattle.cq_held.specs.Folder.{Still}
 use Rattle.cq_held.specs.Survives.{IsSublist}
-use Rattle.cq_held.specs.Steady.{Agreed}
+use Rattle.cq_held.specs.Steady.{AreSound, Agreed}
+
+-- whatever a crash leaves now holds these messages, which are sound
+pub record StillHolds (files : Name → Option File) (lines : ℕ → List Message) : Type 0 where
+  pub contents : Name → List ℕ
+  pub still : Still files contents
+  pub holds : Holds contents lines
+  pub are : AreSound lines
 
 -- Whatever a crash leaves now holds these messages, and they survive the journal.
 pub record Standing (files : Name → Option File) (past : List Entry) (lines : ℕ → List Message) : Type 0 where

@@ -1,11 +1,12 @@
-use Rattle.std.proofs.Common.{◌+◌, ℕ, Option, ◌∙◌, sym, subst, arith}
+use Rattle.std.proofs.Common.{◌+◌, ℕ, Option, ◌∙◌, sym, ap, subst, arith}
 use Rattle.cq_disk.specs.declared.name.Name.{Name}
 use Rattle.cq_disk.specs.File.{File}
 use Rattle.cq_disk.specs.Call.{BeforeFuse}
 use Rattle.cq_disk.specs.Moments.{quiet_then}
+use Rattle.cq_index.specs.Segments.{gate_len}
 use Rattle.cq_held.specs.Held.{as_read, contents_of}
 use Rattle.cq_back.specs.Folder.{index_file, file_bytes}
-use Rattle.cq_back.specs.Read.{IsRead, BreaksFirst}
+use Rattle.cq_back.specs.Read.{AreTaken, AreWithin, IsRead, BreaksFirst}
 use Rattle.cq_back.proofs.Opening.{same_files, damaged_to, err_of}
 use Rattle.cq_back.proofs.messages.read_messages.Goals as goal
 
@@ -14,8 +15,8 @@ returns-in-Err-clause-damaged g c =
     let d = g.D.Disk in
     let i = c.loop-at in
     damaged_to c.in-Err.error _ _ (λ name place found broken told.
-    subst (λ (fs : Name → Option File). IsRead (contents_of (as_read fs)) (file_bytes (fs index_file)) i.at i.held.items i.lines → BreaksFirst (contents_of (as_read fs)) (file_bytes (fs index_file)) name place found)
-    (same_files (d.files c.args.disk.now) (d.files i.disk) (i.invariant.files told)) (broken told) (i.invariant.read told)) c.in-Err.ensures.damaged
+    subst (λ (fs : Name → Option File). IsRead (contents_of (as_read fs)) (file_bytes (fs index_file)) i.at i.held.items i.lines → AreTaken i.at i.held.items i.lines → BreaksFirst (contents_of (as_read fs)) (file_bytes (fs index_file)) name place found)
+    (same_files (d.files c.args.disk.now) (d.files i.disk) (i.invariant.files told)) (broken told) (i.invariant.read told) i.invariant.taken) c.in-Err.ensures.damaged
 
 pub returns-in-Err-clause-any_moment : goal.returns-in-Err-clause-any_moment
 returns-in-Err-clause-any_moment g c = λ told.
@@ -40,6 +41,8 @@ loop-at-preserved g c =
     let e = c.in-Ok.ensures in
     let new = c.read_next.new in
     record {
+      taken = e.taken i.invariant.taken;
+      within = subst (λ (len : ℕ). AreWithin len i.held.items → AreWithin len new.held.items) (ap gate_len i.invariant.small) e.within i.invariant.within;
       read = λ told. subst (λ (fs : Name → Option File). IsRead (contents_of (as_read fs)) (file_bytes (fs index_file)) i.at i.held.items i.lines → IsRead (contents_of (as_read fs)) (file_bytes (fs index_file)) (i.at + 1) new.held.items new.lines)
           (same_files (d.files c.args.disk.now) (d.files i.disk) (i.invariant.files told)) (e.read told) (i.invariant.read told);
       segment = e.same ∙ i.invariant.segment;

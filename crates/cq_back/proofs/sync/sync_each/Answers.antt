@@ -1,7 +1,7 @@
 use Rattle.std.proofs.Common.{rules, arith, ◌∙◌}
 use Rattle.cq_disk.specs.Files.{IsImage}
 use Rattle.cq_disk.specs.Moments.{started}
-use Rattle.cq_back.proofs.Synced.{syncs_none, syncs_more, still_there, run_more}
+use Rattle.cq_back.proofs.Synced.{syncs_none, syncs_more, still_there, run_more, none_new, none_within}
 use Rattle.cq_back.proofs.sync.sync_each.Goals as goal
 
 pub loop-name-init : goal.loop-name-init
@@ -32,6 +32,12 @@ returns-in_err-sync-clause-any_moment g c = λ told.
     (still_there (d.files c.args.disk.now) (d.files i.disk) all i.name-index i.name-index _ c.loop-name-test.true (c.requires told) (i.invariant.syncs told))
     c.sync.ensures.ok c.sync.ensures.fault c.sync.ensures.time (i.invariant.syncs told) (i.invariant.run told)
 
+pub returns-in_err-sync-clause-no_new : goal.returns-in_err-sync-clause-no_new
+returns-in_err-sync-clause-no_new g c = λ told.
+    let d = g.D.Disk in
+    let i = c.loop-name in
+    none_within (d.files c.args.disk.now) (d.files i.disk) (d.files c.sync.new.self) _ _ (i.invariant.syncs told).reads (c.in_err-sync.ensures.fault told)
+
 pub loop-name-preserved : goal.loop-name-preserved
 loop-name-preserved g c =
     let d = g.D.Disk in
@@ -57,3 +63,6 @@ returns-clause-reads g c = λ told. (c.loop-name.invariant.syncs told).reads
 
 pub returns-clause-any_moment : goal.returns-clause-any_moment
 returns-clause-any_moment g c = λ told. c.loop-name.invariant.run told
+
+pub returns-clause-no_new : goal.returns-clause-no_new
+returns-clause-no_new g c = λ told. none_new (g.D.Disk.files c.args.disk.now) (g.D.Disk.files c.loop-name.disk) (c.loop-name.invariant.syncs told).reads
