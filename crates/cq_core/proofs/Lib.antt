@@ -5,3 +5,4 @@ pub mod Found
 pub mod Batches
 pub mod Counts
 pub mod Passing
+pub mod Taken
