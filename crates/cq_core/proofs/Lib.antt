@@ -6,3 +6,4 @@ pub mod Batches
 pub mod Counts
 pub mod Passing
 pub mod Taken
+pub mod Stands
