@@ -5,3 +5,5 @@ pub mod Found
 pub mod Batches
 pub mod Counts
 pub mod Passing
+pub mod Taken
+pub mod Stands

@@ -1,5 +1,6 @@
 -- Which messages of the queue are on the disk, and how a commit lays out the others: records and entries one after another, in the order of the messages.
-use Rattle.std.specs.Prelude.{◌≡◌, ◌≢◌, ℕ, ◌+◌, ◌≤◌, List, [], ◌∷◌, ◌++◌, length, take, drop, map, Option}
+use Rattle.std.specs.Prelude.{◌≡◌, ℕ, ◌+◌, List, [], ◌∷◌, ◌++◌, length, take, drop, map, Option}
+use Rattle.std.specs.Coded.{Coded-set, coded_list, coded_ℕ, le_prop}
 use Rattle.cq_disk.specs.File.{File}
 use Rattle.cq_entry.specs.declared.entry.Entry.{Entry as IndexEntry}
 use Rattle.cq_entry.specs.declared.entry.EntryKind.TheVariants.{Small}
@@ -70,6 +71,15 @@ entries_of base (m ∷ ms) = entry_of base m ∷ entries_of (base + length m.bod
 -- each message's record stands at its spot
 abbrev pub AreAt : List ℕ → List Spot → List Message → Type 0
 AreAt content spots ms = Zip (λ s m. StandsIn content s.place m.body) spots ms
+
+StandsIn-prop : (content : List ℕ) (place : ℕ) (body : List ℕ) → IsProp (StandsIn content place body)
+StandsIn-prop content place body = hlevel (le_prop, Coded-set (coded_list coded_ℕ))
+
+pub AreAt-prop : (content : List ℕ) (spots : List Spot) (ms : List Message) → IsProp (AreAt content spots ms)
+AreAt-prop content [] [] = hlevel
+AreAt-prop content [] (m ∷ ms) = hlevel
+AreAt-prop content (s ∷ spots) [] = hlevel
+AreAt-prop content (s ∷ spots) (m ∷ ms) = hlevel (StandsIn-prop content s.place m.body, AreAt-prop content spots ms)
 
 -- the content of a file, and none where it isn't there
 abbrev pub content_in : Option File → List ℕ
