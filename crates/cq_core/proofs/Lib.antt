@@ -1,7 +1,8 @@
-pub mod Numbered
+pub mod Messages
 pub mod Laid
-pub mod Steps
 pub mod Found
+pub mod Steps
+pub mod Opening
 pub mod Batches
 pub mod Counts
 pub mod Passing
