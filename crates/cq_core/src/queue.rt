@@ -311,7 +311,8 @@ impl Core {
         requires place { IsFirstSpot spot (unstored self.old.entries) }
         requires reserved { 0 < self.old.reserved }
         requires later { newest self.old.entries ≤ stamp }
-        ensures confirms { Confirms stamp self.old.entries self.new.entries }
+        ensures confirms { Confirms stamp spot.id self.old.entries self.new.entries }
+        ensures places { self.new.places ≡ self.old.places ++ drop (delivered self.old.entries 0 - stored_count self.old.entries) (spot ∷ []) }
         ensures left { undecided self.old.entries ≡ undecided self.new.entries + 1 }
         ensures rest { unstored self.new.entries ≡ drop 1 (unstored self.old.entries) }
         ensures reserved { self.old.reserved ≡ self.new.reserved + 1 }
