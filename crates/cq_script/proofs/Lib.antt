@@ -1,3 +1,5 @@
 pub mod Sticky
+pub mod Decimals
+pub mod StepWords
 pub mod Limits
 pub mod Spelled

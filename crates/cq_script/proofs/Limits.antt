@@ -8,7 +8,6 @@ use Rattle.std.proofs.lemmas.List.Sums.{sum_by-append}
 use Rattle.cq_inbox.specs.declared.request.Request.{Request}
 use Rattle.cq_inbox.specs.declared.request.Request.TheVariants.{Publish, Get}
 use Rattle.cq_script.specs.declared.script.StepWord.{StepWord}
-use Rattle.cq_script.specs.declared.script.StepWord.TheVariants as step
 use Rattle.cq_script.specs.declared.script.Why.{Why}
 use Rattle.cq_script.specs.declared.script.Why.TheVariants as why
 use Rattle.cq_script.specs.declared.script.Script.{Script}
@@ -20,8 +19,9 @@ use Rattle.cq_bytes.specs.Texts.{is_text}
 use Rattle.cq_bytes.proofs.Texts.{text-parts}
 use Rattle.cq_script.specs.Words.{is_get, gets, words, script_lines, line_ends, step_of, is_printable, is_spaced}
 use Rattle.cq_script.specs.Grammar.{take_client, among_requests, read_get, take_get, text_of, read_body, read_publish, take_publish, after_step, take_steps, with_steps, take_schedule, take_words, read_line, at_line, take_line, take_lines, nothing_read, script_of}
-use Rattle.cq_script.specs.Scripts.{ReadsScript, IsScript, IsServable, IsStream, IsStep, KeepsLimits}
+use Rattle.cq_script.specs.Scripts.{ReadsScript, IsScript, IsServable, IsStream, IsStep, crashes, KeepsLimits}
 use Rattle.cq_script.proofs.Sticky.{take_steps-Err, take_lines-Err}
+use Rattle.cq_script.proofs.StepWords.{some-of, step-is}
 
 -- what holds of all that the lines so far say
 pub record CanServe (r : Reading) : Type 0 where
@@ -31,6 +31,7 @@ pub record CanServe (r : Reading) : Type 0 where
   pub few_gets : gets r.requests ≤ 64
   pub steps_are : AllByRecursion (IsStep 1) r.steps
   pub few_steps : length r.steps ≤ 10000
+  pub few_crashes : crashes r.steps ≤ 1000
 
 -- a choice that gave Ok didn't give the error
 passed : {A E : Type 0} (b : Bool) (e : E) (rest : Result A E) (r : A) → cond b (Err e) rest ≡ Ok r → (b ≡ false) × (rest ≡ Ok r)
@@ -52,7 +53,7 @@ client-serves r s [] c h = cc
 client-serves r s (n ∷ []) c h =
     let p = passed (not (bytes_eq n (codes "0"))) why.Client _ s h in
     let q = passed r.started why.Order _ s p.1 in
-    subst CanServe (same-ok _ (record r { started = true }) s refl q.1) (record { each = c.each; counted = c.counted; few_publishes = c.few_publishes; few_gets = c.few_gets; steps_are = c.steps_are; few_steps = c.few_steps })
+    subst CanServe (same-ok _ (record r { started = true }) s refl q.1) (record { each = c.each; counted = c.counted; few_publishes = c.few_publishes; few_gets = c.few_gets; steps_are = c.steps_are; few_steps = c.few_steps; few_crashes = c.few_crashes })
 client-serves r s (n ∷ m ∷ ws) c h = cc
 
 among-serves : (r s : Reading) (read : Result Reading Why) → (read ≡ Ok s → CanServe s) → among_requests r read ≡ Ok s → CanServe s
@@ -74,12 +75,9 @@ get-serves r s (n ∷ []) c h =
       few_gets = omega (arith, few, count-push is_get r.requests (Get 0));
       steps_are = c.steps_are;
       few_steps = c.few_steps;
+      few_crashes = c.few_crashes;
     })
 get-serves r s (n ∷ m ∷ ws) c h = cc
-
-some-of : {A : Type 0} (b : Bool) (x y : A) → cond b (Some x) None ≡ Some y → (b ≡ true) × (x ≡ y)
-some-of true x y h = (refl, cc)
-some-of false x y h = cc
 
 text-of : (ws : List (List ℕ)) (t : List ℕ) → text_of ws ≡ Some t → is_text t ≡ true
 text-of [] t h = cc
@@ -103,6 +101,7 @@ body-serves r s ws (Some t) e c h =
       few_gets = omega (arith, c.few_gets, count-push is_get r.requests p);
       steps_are = c.steps_are;
       few_steps = c.few_steps;
+      few_crashes = c.few_crashes;
     })
 
 publish-serves : (r s : Reading) (ws : List (List ℕ)) → CanServe r → read_publish r ws ≡ Ok s → CanServe s
@@ -111,16 +110,6 @@ publish-serves r s (n ∷ []) c h = cc
 publish-serves r s (n ∷ k ∷ ws) c h =
     let d = passed (not (bytes_eq n (codes "0"))) why.Queue _ s h in
     body-serves r s (k ∷ ws) (text_of (k ∷ ws)) refl c d.1
-
--- a step that a word names is one of the one client
-step-is : (w : List ℕ) (s : StepWord) → step_of w ≡ Some s → IsStep 1 s
-step-is w s h = named (bytes_eq w (codes "c0")) (bytes_eq w (codes "t0")) (bytes_eq w (codes "w")) s h
-  where
-    named : (a b d : Bool) (s : StepWord) → cond a (Some (step.Client 0)) (cond b (Some (step.Turn 0)) (cond d (Some step.Write) None)) ≡ Some s → IsStep 1 s
-    named true b d s h = let e : step.Client 0 ≡ s = cc in subst (IsStep 1) e (omega arith)
-    named false true d s h = let e : step.Turn 0 ≡ s = cc in subst (IsStep 1) e (omega arith)
-    named false false true s h = let e : step.Write ≡ s = cc in subst (IsStep 1) e tt
-    named false false false s h = cc
 
 after-is : (old new : List StepWord) (w : List ℕ) (o : Option StepWord) → step_of w ≡ o → AllByRecursion (IsStep 1) old → after_step old o ≡ Ok new → AllByRecursion (IsStep 1) new
 after-is old new w None e a h = cc
@@ -135,17 +124,24 @@ steps-are old new (w ∷ ws) a h =
       | Err x ↦ λ e k. absurd (let bad : Err x ≡ Ok new = sym (take_steps-Err x ws) ∙ k in cc)
     ]) refl h
 
+neither : (a b : Bool) → (a || b) ≡ false → (a ≡ false) × (b ≡ false)
+neither false false h = (refl, refl)
+neither false true h = cc
+neither true b h = cc
+
 with-serves : (n : ℕ) (r s : Reading) (ws : List (List ℕ)) (read : Result (List StepWord) Why) → take_steps (Ok r.steps) ws ≡ read → CanServe r → with_steps n r read ≡ Ok s → CanServe s
 with-serves n r s ws (Err e) t c h = cc
 with-serves n r s ws (Ok steps) t c h =
-    let f = passed (nat_lt 10000 (length steps)) why.Many _ s h in
+    let f = passed (nat_lt 10000 (length steps) || nat_lt 1000 (crashes steps)) why.Many _ s h in
+    let few = neither (nat_lt 10000 (length steps)) (nat_lt 1000 (crashes steps)) f.0 in
     subst CanServe (same-ok _ (record r { steps = steps; scheduled = Some n }) s refl f.1) (record {
       each = c.each;
       counted = c.counted;
       few_publishes = c.few_publishes;
       few_gets = c.few_gets;
       steps_are = steps-are r.steps steps ws c.steps_are t;
-      few_steps = ltb-false 10000 (length steps) f.0;
+      few_steps = ltb-false 10000 (length steps) few.0;
+      few_crashes = ltb-false 1000 (crashes steps) few.1;
     })
 
 schedule-serves : (n : ℕ) (r s : Reading) (ws : List (List ℕ)) → CanServe r → take_schedule n r ws ≡ Ok s → CanServe s
@@ -186,7 +182,7 @@ lines-serve n r s (l ∷ ls) c h =
 script-serves : (bytes : List ℕ) (s : Reading) → script_of bytes ≡ Ok s → CanServe s
 script-serves bytes s h =
     let p = passed (nat_lt 1048576 (length bytes)) (script_error.Bad (line_ends (take 1048576 bytes) + 1) why.Long) _ s h in
-    lines-serve 1 nothing_read s (script_lines bytes) (record { each = tt; counted = refl; few_publishes = omega arith; few_gets = omega arith; steps_are = tt; few_steps = omega arith }) p.1
+    lines-serve 1 nothing_read s (script_lines bytes) (record { each = tt; counted = refl; few_publishes = omega arith; few_gets = omega arith; steps_are = tt; few_steps = omega arith; few_crashes = omega arith }) p.1
 
 -- the script that is made of it keeps the limits
 keeps-limits : (r : Reading) (script : Script) → CanServe r → IsScript r script → KeepsLimits script
@@ -196,6 +192,7 @@ keeps-limits r script c i = record {
   one_each = ap length i.streams_is ∙ sym i.config_is.clients_is;
   streams_are = subst (AllByRecursion IsStream) (sym i.streams_is) (record { few_publishes = c.few_publishes; few = omega (arith, c.counted, c.few_publishes, c.few_gets); each = c.each }, tt);
   few_steps = subst (λ (steps : List StepWord). length steps ≤ 10000) (sym i.steps_is) c.few_steps;
+  few_crashes = subst (λ (steps : List StepWord). crashes steps ≤ 1000) (sym i.steps_is) c.few_crashes;
   steps_are = subst (λ clients. AllByRecursion (IsStep clients) script.steps) (sym i.config_is.clients_is) (subst (AllByRecursion (IsStep 1)) (sym i.steps_is) c.steps_are);
 }
 

@@ -6,13 +6,13 @@ use Rattle.std.proofs.lemmas.Bool.{leb-true, le-leb, and_parts, ne_eqb}
 use Rattle.std.proofs.lemmas.Bool.Decides.{nat_tests}
 use Rattle.std.proofs.lemmas.List.Splits.{slice_split_none, slice_split_at}
 use Rattle.std.proofs.lemmas.List.Sums.{sum_by-append}
+use Rattle.std.proofs.lemmas.List.Folds.{list_all-append}
 use Rattle.std.proofs.lemmas.List.Elements.{All-from_recursion}
 use Rattle.std.proofs.Math.Seq.{take-append_seam, get_or-append_seam}
 use Rattle.cq_inbox.specs.declared.request.Request.{Request}
 use Rattle.cq_inbox.specs.declared.request.Request.TheVariants.{Publish, Get, Ack, End}
 use Rattle.cq_inbox.specs.Requests.{publishes}
 use Rattle.cq_script.specs.declared.script.StepWord.{StepWord}
-use Rattle.cq_script.specs.declared.script.StepWord.TheVariants.{Client, Turn, Write}
 use Rattle.cq_script.specs.declared.script.Why.{Why}
 use Rattle.cq_script.specs.declared.script.Why.TheVariants as why
 use Rattle.cq_script.specs.declared.script.Script.{Script}
@@ -22,9 +22,10 @@ use Rattle.cq_script.specs.declared.reading.Reading.{Reading}
 use Rattle.cq_bytes.specs.Texts.{is_text, is_visible}
 use Rattle.cq_bytes.proofs.Texts.{text-parts}
 use Rattle.cq_script.specs.Words.{gets, words, script_lines, without_last_newline, line_ends, is_printable, is_spaced}
-use Rattle.cq_script.specs.Grammar.{take_steps, with_steps, read_body, read_line, at_line, take_words, take_lines, nothing_read, script_of}
-use Rattle.cq_script.specs.Scripts.{ReadsScript, IsStep}
+use Rattle.cq_script.specs.Grammar.{after_step, take_steps, with_steps, read_body, read_line, at_line, take_words, take_lines, nothing_read, script_of}
+use Rattle.cq_script.specs.Scripts.{ReadsScript, IsStep, crashes}
 use Rattle.cq_script.specs.Spelling.{request_line, step_word, spaced_steps, schedule_lines, spelling, IsSpellable, AreSpellable, schedule_place, ReadsBack}
+use Rattle.cq_script.proofs.StepWords.{step-visible, step-short, step-read}
 
 -- ---- bytes that aren't in a text
 
@@ -95,19 +96,21 @@ request-printable (Get queue) s = refl
 request-printable (Ack delivery) s = absurd s
 request-printable End s = absurd s
 
-spaced-printable : (steps : List StepWord) → list_all is_printable (spaced_steps steps) ≡ true
-spaced-printable [] = refl
-spaced-printable (Client c ∷ ss) = spaced-printable ss
-spaced-printable (Turn c ∷ ss) = spaced-printable ss
-spaced-printable (Write ∷ ss) = spaced-printable ss
+spaced-printable : (steps : List StepWord) → AllByRecursion (IsStep 1) steps → list_all is_printable (spaced_steps steps) ≡ true
+spaced-printable [] a = refl
+spaced-printable (s ∷ ss) a =
+    list_all-append is_printable (step_word s) (spaced_steps ss)
+    ∙ ap (λ b. b && list_all is_printable (spaced_steps ss)) (visible-printable (step_word s) (step-visible s a.0))
+    ∙ spaced-printable ss a.1
 
-schedule-printable : (steps : List StepWord) → AllByRecursion (λ k. list_all is_printable k ≡ true) (schedule_lines steps)
-schedule-printable [] = tt
-schedule-printable (s ∷ ss) = (spaced-printable (s ∷ ss), tt)
+schedule-printable : (steps : List StepWord) → AllByRecursion (IsStep 1) steps → AllByRecursion (λ k. list_all is_printable k ≡ true) (schedule_lines steps)
+schedule-printable [] a = tt
+schedule-printable (s ∷ ss) a = (spaced-printable (s ∷ ss) a, tt)
 
-lines-printable : (rs : List Request) (steps : List StepWord) → AllByRecursion IsSpellable rs → AllByRecursion (λ k. list_all is_printable k ≡ true) (map request_line rs ++ schedule_lines steps)
-lines-printable [] steps a = schedule-printable steps
-lines-printable (r ∷ rs) steps a = (request-printable r a.0, lines-printable rs steps a.1)
+lines-printable : (rs : List Request) (steps : List StepWord) → AllByRecursion IsSpellable rs → AllByRecursion (IsStep 1) steps
+    → AllByRecursion (λ k. list_all is_printable k ≡ true) (map request_line rs ++ schedule_lines steps)
+lines-printable [] steps a p = schedule-printable steps p
+lines-printable (r ∷ rs) steps a p = (request-printable r a.0, lines-printable rs steps a.1 p)
 
 -- ---- a spelled script isn't long
 
@@ -123,17 +126,15 @@ short-requests [] rest a = omega arith
 short-requests (r ∷ rs) rest a =
     omega (arith, length-append (request_line r ++ 10 ∷ []) (flat_map (λ k. k ++ 10 ∷ []) (map request_line rs ++ rest)), short-request r a.0, short-requests rs rest a.1)
 
-short-spaced : (steps : List StepWord) → length (spaced_steps steps) ≤ 3 * length steps
-short-spaced [] = omega arith
-short-spaced (Client c ∷ ss) = omega (arith, short-spaced ss)
-short-spaced (Turn c ∷ ss) = omega (arith, short-spaced ss)
-short-spaced (Write ∷ ss) = omega (arith, short-spaced ss)
+short-spaced : (steps : List StepWord) → AllByRecursion (IsStep 1) steps → length (spaced_steps steps) ≤ 46 * length steps
+short-spaced [] a = omega arith
+short-spaced (s ∷ ss) a = omega (arith, length-append (step_word s) (spaced_steps ss), (step-short s a.0).1, short-spaced ss a.1)
 
-short-schedule : (steps : List StepWord) → length (flat_map (λ k. k ++ 10 ∷ []) (schedule_lines steps)) ≤ 9 + 3 * length steps
-short-schedule [] = omega arith
-short-schedule (s ∷ ss) =
+short-schedule : (steps : List StepWord) → AllByRecursion (IsStep 1) steps → length (flat_map (λ k. k ++ 10 ∷ []) (schedule_lines steps)) ≤ 9 + 46 * length steps
+short-schedule [] a = omega arith
+short-schedule (s ∷ ss) a =
     let line : List ℕ = codes "schedule" ++ spaced_steps (s ∷ ss) in
-    omega (arith, ap length (append-nil (line ++ 10 ∷ [])), length-append line (10 ∷ []), length-append (codes "schedule") (spaced_steps (s ∷ ss)), short-spaced (s ∷ ss))
+    omega (arith, ap length (append-nil (line ++ 10 ∷ [])), length-append line (10 ∷ []), length-append (codes "schedule") (spaced_steps (s ∷ ss)), short-spaced (s ∷ ss) a)
 
 publish-counts : (queues body : List ℕ) (rs : List Request) → (publishes (Publish queues body ∷ rs) ≡ 1 + publishes rs) × (gets (Publish queues body ∷ rs) ≡ 0 + gets rs)
 publish-counts queues body rs = (sum_by-append _ (Publish queues body ∷ []) rs, sum_by-append _ (Publish queues body ∷ []) rs)
@@ -154,7 +155,7 @@ short rs steps s =
       arith,
       length-append (codes "client 0" ++ 10 ∷ []) (flat_map (λ k. k ++ 10 ∷ []) (map request_line rs ++ schedule_lines steps)),
       short-requests rs (schedule_lines steps) s.each,
-      short-schedule steps,
+      short-schedule steps s.steps_are,
       counted rs s.each,
       s.few_publishes,
       s.few_gets,
@@ -241,30 +242,22 @@ requests-read (End ∷ rs) before n rest a p g = absurd a.0
 
 -- ---- the schedule
 
-word-alone : (s : StepWord) → All (λ x. (x == 32) ≡ false) (step_word s)
-word-alone (Client c) = no-space (codes "c0") refl
-word-alone (Turn c) = no-space (codes "t0") refl
-word-alone Write = no-space (codes "w") refl
+spaced-words : (w : List ℕ) (steps : List StepWord) → All (λ x. (x == 32) ≡ false) w → AllByRecursion (IsStep 1) steps → words (w ++ spaced_steps steps) ≡ w ∷ map step_word steps
+spaced-words w [] a p = ap words (append-nil w) ∙ slice_split_none (λ c. c == 32) w a
+spaced-words w (s ∷ ss) a p =
+    slice_split_at (λ c. c == 32) w 32 (step_word s ++ spaced_steps ss) a refl
+    ∙ ap (λ ws. w ∷ ws) (spaced-words (step_word s) ss (no-space (step_word s) (step-visible s p.0)) p.1)
 
-spaced-words : (w : List ℕ) (steps : List StepWord) → All (λ x. (x == 32) ≡ false) w → words (w ++ spaced_steps steps) ≡ w ∷ map step_word steps
-spaced-words w [] a = ap words (append-nil w) ∙ slice_split_none (λ c. c == 32) w a
-spaced-words w (s ∷ ss) a = slice_split_at (λ c. c == 32) w 32 (step_word s ++ spaced_steps ss) a refl ∙ ap (λ ws. w ∷ ws) (spaced-words (step_word s) ss (word-alone s))
-
-steps-spaced : (steps : List StepWord) → list_all (λ w. not (length w == 0)) (map step_word steps) ≡ true
-steps-spaced [] = refl
-steps-spaced (Client c ∷ ss) = steps-spaced ss
-steps-spaced (Turn c ∷ ss) = steps-spaced ss
-steps-spaced (Write ∷ ss) = steps-spaced ss
+steps-spaced : (steps : List StepWord) → AllByRecursion (IsStep 1) steps → list_all (λ w. not (length w == 0)) (map step_word steps) ≡ true
+steps-spaced [] a = refl
+steps-spaced (s ∷ ss) a = ap (λ b. not b && list_all (λ w. not (length w == 0)) (map step_word ss)) (not-empty (step_word s) (step-short s a.0).0) ∙ steps-spaced ss a.1
 
 steps-read : (steps before : List StepWord) → AllByRecursion (IsStep 1) steps → take_steps (Ok before) (map step_word steps) ≡ Ok (before ++ steps)
 steps-read [] before a = ap Ok (sym (append-nil before))
-steps-read (Client c ∷ ss) before a =
-    let same : 0 ≡ c = omega (arith, a.0) in
-    steps-read ss (before ++ Client 0 ∷ []) a.1 ∙ ap Ok (append_assoc before (Client 0 ∷ []) ss) ∙ ap (λ d. Ok (before ++ Client d ∷ ss)) same
-steps-read (Turn c ∷ ss) before a =
-    let same : 0 ≡ c = omega (arith, a.0) in
-    steps-read ss (before ++ Turn 0 ∷ []) a.1 ∙ ap Ok (append_assoc before (Turn 0 ∷ []) ss) ∙ ap (λ d. Ok (before ++ Turn d ∷ ss)) same
-steps-read (Write ∷ ss) before a = steps-read ss (before ++ Write ∷ []) a.1 ∙ ap Ok (append_assoc before (Write ∷ []) ss)
+steps-read (s ∷ ss) before a =
+    ap (λ o. take_steps (after_step before o) (map step_word ss)) (step-read s a.0)
+    ∙ steps-read ss (before ++ s ∷ []) a.1
+    ∙ ap Ok (append_assoc before (s ∷ []) ss)
 
 -- what is read at the end
 abbrev all-read : List Request → List StepWord → Reading
@@ -274,20 +267,22 @@ all-read rs steps = record { requests = rs; steps = steps; started = true; sched
 abbrev scheduled-by : ℕ → List Request → Bool → List (List ℕ) → Result Reading Why
 scheduled-by n rs printable ws = cond (not printable || not (is_spaced ws)) (Err why.Word) (take_words n (requested rs) ws)
 
-schedule-read : (n : ℕ) (rs : List Request) (s : StepWord) (ss : List StepWord) → AllByRecursion (IsStep 1) (s ∷ ss) → length (s ∷ ss) ≤ 10000
+schedule-read : (n : ℕ) (rs : List Request) (s : StepWord) (ss : List StepWord) → AllByRecursion (IsStep 1) (s ∷ ss) → length (s ∷ ss) ≤ 10000 → crashes (s ∷ ss) ≤ 1000
     → read_line n (requested rs) (codes "schedule" ++ spaced_steps (s ∷ ss)) ≡ Ok (record { requests = rs; steps = s ∷ ss; started = true; scheduled = Some n })
-schedule-read n rs s ss a few =
-    ap (λ b. scheduled-by n rs b (words (codes "schedule" ++ spaced_steps (s ∷ ss)))) (spaced-printable (s ∷ ss))
-    ∙ ap (λ ws. scheduled-by n rs true ws) (spaced-words (codes "schedule") (s ∷ ss) (no-space (codes "schedule") refl))
-    ∙ ap (λ b. cond (not b) (Err why.Word) (with_steps n (requested rs) (take_steps (Ok []) (map step_word (s ∷ ss))))) (steps-spaced (s ∷ ss))
+schedule-read n rs s ss a few few_crashes =
+    let read : Reading = record { requests = rs; steps = s ∷ ss; started = true; scheduled = Some n } in
+    ap (λ b. scheduled-by n rs b (words (codes "schedule" ++ spaced_steps (s ∷ ss)))) (spaced-printable (s ∷ ss) a)
+    ∙ ap (λ ws. scheduled-by n rs true ws) (spaced-words (codes "schedule") (s ∷ ss) (no-space (codes "schedule") refl) a)
+    ∙ ap (λ b. cond (not b) (Err why.Word) (with_steps n (requested rs) (take_steps (Ok []) (map step_word (s ∷ ss))))) (steps-spaced (s ∷ ss) a)
     ∙ ap (with_steps n (requested rs)) (steps-read (s ∷ ss) [] a)
-    ∙ ap (λ b. cond b (Err why.Many) (Ok (record { requests = rs; steps = s ∷ ss; started = true; scheduled = Some n }))) (lt-false 10000 (length (s ∷ ss)) few)
+    ∙ ap (λ b. cond (b || nat_lt 1000 (crashes (s ∷ ss))) (Err why.Many) (Ok read)) (lt-false 10000 (length (s ∷ ss)) few)
+    ∙ ap (λ b. cond b (Err why.Many) (Ok read)) (lt-false 1000 (crashes (s ∷ ss)) few_crashes)
 
-schedules-read : (n : ℕ) (rs : List Request) (steps : List StepWord) → AllByRecursion (IsStep 1) steps → length steps ≤ 10000 → n ≡ length rs + 2
+schedules-read : (n : ℕ) (rs : List Request) (steps : List StepWord) → AllByRecursion (IsStep 1) steps → length steps ≤ 10000 → crashes steps ≤ 1000 → n ≡ length rs + 2
     → take_lines n (Ok (requested rs)) (schedule_lines steps) ≡ Ok (all-read rs steps)
-schedules-read n rs [] a few e = refl
-schedules-read n rs (s ∷ ss) a few e =
-    ap (at_line n) (schedule-read n rs s ss a few) ∙ ap (λ k. Ok (record { requests = rs; steps = s ∷ ss; started = true; scheduled = Some k })) e
+schedules-read n rs [] a few few_crashes e = refl
+schedules-read n rs (s ∷ ss) a few few_crashes e =
+    ap (at_line n) (schedule-read n rs s ss a few few_crashes) ∙ ap (λ k. Ok (record { requests = rs; steps = s ∷ ss; started = true; scheduled = Some k })) e
 
 -- ---- the whole
 
@@ -295,9 +290,9 @@ spelled-read : (rs : List Request) (steps : List StepWord) → AreSpellable rs s
 spelled-read rs steps s =
     let place : 2 + length rs ≡ length rs + 2 = omega arith in
     ap (λ b. cond b (Err (script_error.Bad (line_ends (take 1048576 (spelling rs steps)) + 1) why.Long)) (take_lines 1 (Ok nothing_read) (script_lines (spelling rs steps)))) (lt-false 1048576 (length (spelling rs steps)) (short rs steps s))
-    ∙ ap (λ ls. take_lines 1 (Ok nothing_read) ls) (lines-back (codes "client 0") (map request_line rs ++ schedule_lines steps) (refl, lines-printable rs steps s.each))
+    ∙ ap (λ ls. take_lines 1 (Ok nothing_read) ls) (lines-back (codes "client 0") (map request_line rs ++ schedule_lines steps) (refl, lines-printable rs steps s.each s.steps_are))
     ∙ requests-read rs [] 2 (schedule_lines steps) s.each (omega (arith, s.few_publishes)) (omega (arith, s.few_gets))
-    ∙ schedules-read (2 + length rs) rs steps s.steps_are s.few_steps place
+    ∙ schedules-read (2 + length rs) rs steps s.steps_are s.few_steps s.few_crashes place
 
 -- a reader that is exact reads a spelled script back
 pub reads-back : (result : Result Script ScriptError) (bytes : List ℕ) (rs : List Request) (steps : List StepWord) → ReadsScript result (script_of bytes)

@@ -14,6 +14,7 @@ use Rattle.cq_script.specs.declared.reading.Reading.{Reading}
 use Rattle.cq_inbox.specs.Requests.{publishes}
 use Rattle.cq_bytes.specs.Texts.{is_text}
 use Rattle.cq_script.specs.Words.{script_lines, line_ends, words, is_printable, is_spaced, step_of, gets}
+use Rattle.cq_script.specs.Scripts.{crashes}
 
 -- `client 0`, once
 abbrev pub take_client : Reading → List (List ℕ) → Result Reading Why
@@ -76,9 +77,9 @@ abbrev pub take_steps : Result (List StepWord) Why → List (List ℕ) → Resul
 take_steps read [] = read
 take_steps read (w ∷ ws) = take_steps (take_step w read) ws
 
--- a schedule has at most 10,000 steps
+-- a schedule has at most 10,000 steps, at most 1000 of them crashes
 abbrev pub with_steps : ℕ → Reading → Result (List StepWord) Why → Result Reading Why
-with_steps n r (Ok steps) = if nat_lt 10000 (length steps) then Err why.Many else Ok (record r { steps = steps; scheduled = Some n })
+with_steps n r (Ok steps) = if nat_lt 10000 (length steps) || nat_lt 1000 (crashes steps) then Err why.Many else Ok (record r { steps = steps; scheduled = Some n })
 with_steps n r (Err e) = Err e
 
 -- `schedule S S`, once

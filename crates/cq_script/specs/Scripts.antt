@@ -1,12 +1,14 @@
 -- What a script is read as, and the limits that it keeps.
-use Rattle.std.specs.Prelude.{◌≡◌, ℕ, ◌<◌, ◌≤◌, List, [], ◌∷◌, length, Result, Ok, Err}
-use Rattle.std.specs.List.{AllByRecursion}
+use Rattle.std.specs.Prelude.{◌≡◌, ℕ, ◌^◌, ◌<◌, ◌≤◌, Bool, true, false, List, [], ◌∷◌, length, Result, Ok, Err}
+use Rattle.std.specs.List.{AllByRecursion, count_by}
 use Rattle.cq_inbox.specs.declared.request.Request.{Request}
 use Rattle.cq_inbox.specs.declared.request.Request.TheVariants.{Publish, Get}
 use Rattle.cq_inbox.specs.Requests.{IsRequest, publishes}
 use Rattle.cq_inbox.specs.Config.{IsInRange, HasNumbers}
 use Rattle.cq_script.specs.declared.script.StepWord.{StepWord}
-use Rattle.cq_script.specs.declared.script.StepWord.TheVariants.{Client, Turn, Write}
+use Rattle.cq_script.specs.declared.script.StepWord.TheVariants.{Client, Turn, Write, Crash, Stop}
+use Rattle.cq_script.specs.declared.script.Halt.{Halt}
+use Rattle.cq_script.specs.declared.script.Halt.TheVariants as halt
 use Rattle.cq_script.specs.declared.script.Script.{Script}
 use Rattle.cq_script.specs.declared.script.ScriptError.{ScriptError}
 use Rattle.cq_script.specs.declared.script.ScriptError.TheVariants.{Bad, Memory}
@@ -41,11 +43,30 @@ pub record IsStream (requests : List Request) : Type 0 where
   pub few : length requests ≤ 4160
   pub each : AllByRecursion IsServable requests
 
--- a step that names a client names one of so many
+-- a step within which the disk may stop names one of so many clients, if it names one
+abbrev pub IsHalt : ℕ → Halt → Type 0
+IsHalt clients (halt.Turn c) = c < clients
+IsHalt clients halt.Write = Unit {0}
+
+-- a step names one of so many clients, if it names one, and its numbers are below 2 ^ 64
 abbrev pub IsStep : ℕ → StepWord → Type 0
 IsStep clients (Client c) = c < clients
 IsStep clients (Turn c) = c < clients
 IsStep clients Write = Unit {0}
+IsStep clients (Crash image) = image < 2 ^ 64
+IsStep clients (Stop image calls s) = (image < 2 ^ 64) × (calls < 2 ^ 64) × IsHalt clients s
+
+-- whether a step ends the session with a crash
+abbrev pub is_crash : StepWord → Bool
+is_crash (Client c) = false
+is_crash (Turn c) = false
+is_crash Write = false
+is_crash (Crash image) = true
+is_crash (Stop image calls s) = true
+
+-- how many of the steps end the session with a crash
+abbrev pub crashes : List StepWord → ℕ
+crashes steps = count_by is_crash steps
 
 -- the numbers are in their ranges, there is one client, it has its stream, and requests and steps are few and can be served
 pub record KeepsLimits (script : Script) : Type 0 where
@@ -54,4 +75,5 @@ pub record KeepsLimits (script : Script) : Type 0 where
   pub one_each : length script.streams ≡ script.config.clients
   pub streams_are : AllByRecursion IsStream script.streams
   pub few_steps : length script.steps ≤ 10000
+  pub few_crashes : crashes script.steps ≤ 1000
   pub steps_are : AllByRecursion (IsStep script.config.clients) script.steps

@@ -1,17 +1,20 @@
 -- How a script is spelled.
 use Rattle.std.specs.Prelude.{◌≡◌, ℕ, ◌+◌, ◌≤◌, true, List, [], ◌∷◌, ◌++◌, length, map, Option, None, Some, Result, Ok, Err, codes}
 use Rattle.std.specs.List.{AllByRecursion, flat_map}
+use Rattle.std.specs.Fmt.{decimal}
 use Rattle.cq_inbox.specs.declared.request.Request.{Request}
 use Rattle.cq_inbox.specs.declared.request.Request.TheVariants.{Publish, Get}
 use Rattle.cq_inbox.specs.Requests.{publishes}
 use Rattle.cq_script.specs.declared.script.StepWord.{StepWord}
-use Rattle.cq_script.specs.declared.script.StepWord.TheVariants.{Client, Turn, Write}
+use Rattle.cq_script.specs.declared.script.StepWord.TheVariants.{Client, Turn, Write, Crash, Stop}
+use Rattle.cq_script.specs.declared.script.Halt.{Halt}
+use Rattle.cq_script.specs.declared.script.Halt.TheVariants as halt
 use Rattle.cq_script.specs.declared.script.Script.{Script}
 use Rattle.cq_script.specs.declared.script.ScriptError.{ScriptError}
 use Rattle.cq_script.specs.declared.script.ScriptError.TheVariants.{Bad, Memory}
 use Rattle.cq_bytes.specs.Texts.{is_text}
 use Rattle.cq_script.specs.Words.{gets}
-use Rattle.cq_script.specs.Scripts.{IsStep}
+use Rattle.cq_script.specs.Scripts.{IsStep, crashes}
 
 -- the line of a request
 abbrev pub request_line : Request → List ℕ
@@ -19,11 +22,18 @@ request_line (Publish queues body) = codes "publish 0 text " ++ body
 request_line (Get queue) = codes "get 0"
 request_line _ = []
 
+-- the word of a step within which the disk may stop
+abbrev pub halt_word : Halt → List ℕ
+halt_word (halt.Turn c) = codes "t0"
+halt_word halt.Write = codes "w"
+
 -- the word of a step
 abbrev pub step_word : StepWord → List ℕ
 step_word (Client c) = codes "c0"
 step_word (Turn c) = codes "t0"
 step_word Write = codes "w"
+step_word (Crash image) = codes "!" ++ decimal image
+step_word (Stop image calls s) = codes "!" ++ (decimal image ++ (codes "/" ++ (decimal calls ++ (codes ":" ++ halt_word s))))
 
 -- steps, with a space before each
 abbrev pub spaced_steps : List StepWord → List ℕ
@@ -55,6 +65,7 @@ pub record AreSpellable (requests : List Request) (steps : List StepWord) : Type
   pub few_gets : gets requests ≤ 64
   pub steps_are : AllByRecursion (IsStep 1) steps
   pub few_steps : length steps ≤ 10000
+  pub few_crashes : crashes steps ≤ 1000
 
 -- the number of the schedule line
 abbrev pub schedule_place : List Request → List StepWord → Option ℕ

@@ -2,6 +2,7 @@
 #![tactic(auto)]
 
 mod lines;
+mod numbers;
 mod reader;
 mod reading;
 mod script;
@@ -9,7 +10,7 @@ mod stream;
 mod texts;
 
 pub use reader::read_script;
-pub use script::{Script, ScriptError, StepWord, Steps, Streams, Why};
+pub use script::{Halt, Script, ScriptError, StepWord, Steps, Streams, Why};
 
 #[cfg(test)]
 mod tests;

@@ -18,8 +18,9 @@ const MOST_BYTES: usize = 1_048_576;
 
 /// Reads a script of at most 1,048,576 bytes. It is empty, or lines that end with LF, of which the last may lack it:
 /// `client 0`; then lines `publish 0 text W`, where W has 1 to 64 bytes from 0x21 to 0x7e, at most 4096 of them, and
-/// `get 0`, at most 64; then at most one line `schedule` with 1 to 10,000 of the words `c0`, `t0` and `w`. Single
-/// spaces separate words. `Bad` exactly where the bytes aren't of this form, with the first bad line.
+/// `get 0`, at most 64; then at most one line `schedule` with 1 to 10,000 of the words `c0`, `t0`, `w`, `!N` and
+/// `!N/K:S`, at most 1000 of them with `!`. N and K are decimal numbers below 2^64 without a leading zero, and S is `t0`
+/// or `w`. Single spaces separate words. `Bad` exactly where the bytes aren't of this form, with the first bad line.
 pub fn read_script(alloc: Global, bytes: &[u8]) -> Result<Script, ScriptError>
     ensures exact { ReadsScript result (script_of bytes.now) }
     ensures limits { IfOk result KeepsLimits }

@@ -24,6 +24,9 @@ const MOST_GETS: usize = 64;
 /// How many words the schedule may have.
 const MOST_STEPS: usize = 10_000;
 
+/// How many of them may be crashes.
+const MOST_CRASHES: usize = 1000;
+
 /// What the lines so far say.
 #[derive(Debug, Drop)]
 pub struct Reading {
@@ -140,7 +143,8 @@ impl Reading {
         if let Err(error) = take_steps(&mut self.steps, rest) {
             return Err(error);
         }
-        if self.steps.words().len() > MOST_STEPS {
+        let words = self.steps.words();
+        if words.len() > MOST_STEPS || crashes(words) > MOST_CRASHES {
             return Err(LineError::Bad(Why::Many));
         }
         self.scheduled = Some(number);
@@ -174,6 +178,24 @@ impl Reading {
 }
 
 ghost use Rattle.cq_script.specs.Grammar.{GivesSteps, take_step, take_steps};
+ghost use Rattle.cq_script.specs.Scripts.{is_crash, crashes};
+
+/// Whether a step ends the session with a crash.
+fn is_crash(step: StepWord) -> bool
+    ensures { result ≡ is_crash step }
+{
+    match step {
+        StepWord::Crash { .. } | StepWord::Stop { .. } => true,
+        StepWord::Client(_) | StepWord::Turn(_) | StepWord::Write => false,
+    }
+}
+
+/// How many of the steps end the session with a crash.
+fn crashes(steps: &[StepWord]) -> usize
+    ensures { result ≡ crashes steps.now }
+{
+    steps.iter().filter(|step| is_crash(**step)).count()
+}
 
 /// Adds the step of a word.
 fn take_step(steps: &mut Steps, word: &[u8]) -> Result<(), LineError>

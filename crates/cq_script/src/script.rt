@@ -14,6 +14,20 @@ pub enum StepWord {
     Turn(u32),
     /// A step of the writer.
     Write,
+    /// The session ends with a crash that leaves this image.
+    Crash { image: u64 },
+    /// After so many further device calls the disk fails. This step is made, and then the session ends with a crash that
+    /// leaves this image.
+    Stop { image: u64, calls: u64, step: Halt },
+}
+
+/// A step within which the disk may stop.
+#[derive(Clone, Copy, Debug, PartialEq, Eq)]
+pub enum Halt {
+    /// A turn of this client is served.
+    Turn(u32),
+    /// A step of the writer.
+    Write,
 }
 
 /// Why a line is refused.
@@ -31,7 +45,7 @@ pub enum Why {
     Body,
     /// A word of a schedule is of no known form.
     Step,
-    /// There are too many requests, or too many steps.
+    /// There are too many requests, steps or crashes.
     Many,
     /// The script has too many bytes.
     Long,

@@ -1,5 +1,5 @@
 // Scripts of the form and not of it, at each limit and one past it.
-use crate::{ScriptError, StepWord, Why, read_script};
+use crate::{Halt, ScriptError, StepWord, Why, read_script};
 use cq_inbox::Request;
 use std::alloc::{AllocError, Global};
 use std::test::Fail;
@@ -91,6 +91,83 @@ fn the_first_bad_line_is_told(rt: HostRuntime) -> Result<(), Fail> {
     Ok(())
 }
 
+/// The first step of a schedule of this word, or `None` where the word is refused as no step.
+fn first_step(alloc: Global, word: &str) -> Result<Option<StepWord>, AllocError> {
+    let script = repeated(alloc, b"client 0\nschedule ", word.as_bytes(), 1)?;
+    match read_script(alloc, &script) {
+        Ok(script) => Ok(script.steps.words().first().copied()),
+        Err(
+            ScriptError::Bad {
+                line: 2,
+                why: Why::Step,
+            },
+        ) => Ok(None),
+        Err(_) => Err(AllocError),
+    }
+}
+
+/// A crash.
+fn crash(image: u64) -> Option<StepWord> {
+    Some(StepWord::Crash { image })
+}
+
+/// A stop.
+fn stop(image: u64, calls: u64, step: Halt) -> Option<StepWord> {
+    Some(StepWord::Stop { image, calls, step })
+}
+
+#[test]
+fn words_of_crashes_are_read(rt: HostRuntime) -> Result<(), Fail> {
+    let rows = [
+        ("!0", crash(0)),
+        ("!18446744073709551615", crash(u64::MAX)),
+        ("!18446744073709551616", None),
+        ("!00", None),
+        ("!01", None),
+        ("!", None),
+        ("!+1", None),
+        ("!-1", None),
+        ("!1a", None),
+        ("!1/", None),
+        ("!1/2", None),
+        ("!1/2:", None),
+        ("!1/:w", None),
+        ("!/2:w", None),
+        ("!1:w", None),
+        ("!1:2/w", None),
+        ("!1/2:m", None),
+        ("!1/2:c0", None),
+        ("!1/2:w*2", None),
+        ("!57/15:w", stop(57, 15, Halt::Write)),
+        ("!2/15:t0", stop(2, 15, Halt::Turn(0))),
+        ("!0/18446744073709551615:w", stop(0, u64::MAX, Halt::Write)),
+        ("!0/18446744073709551616:w", None),
+        ("!2/015:w", None),
+        ("!02/15:w", None),
+        ("!2/15:t1", None),
+        ("!x/1:w", None),
+        ("!1/2:w/3", None),
+        ("!1/2/3:w", None),
+        ("!1/2:3:w", None),
+    ];
+    for (word, step) in rows {
+        let found = first_step(rt.alloc(), word)?;
+        assert_eq!(rt; found, step, "at {word}");
+    }
+    Ok(())
+}
+
+#[test]
+fn a_bad_word_is_told_before_the_totals(rt: HostRuntime) -> Result<(), Fail> {
+    for (piece, count) in [(" !0", 1001), (" w", 10_001)] {
+        let mut script = repeated(rt.alloc(), b"client 0\nschedule", piece.as_bytes(), count)?;
+        script.extend_from_slice(b" !01")?;
+        let found = refusal(rt.alloc(), &script)?;
+        assert_eq!(rt; found, Some((2, Why::Step)), "after {count} of {piece}");
+    }
+    Ok(())
+}
+
 #[test]
 fn each_limit_is_kept(rt: HostRuntime) -> Result<(), Fail> {
     let rows = [
@@ -107,6 +184,17 @@ fn each_limit_is_kept(rt: HostRuntime) -> Result<(), Fail> {
         ("client 0\n", "get 0\n", 65, Some((66, Why::Many))),
         ("client 0\nschedule", " w", 10_000, None),
         ("client 0\nschedule", " w", 10_001, Some((2, Why::Many))),
+        ("client 0\nschedule", " !0", 1000, None),
+        ("client 0\nschedule", " !0", 1001, Some((2, Why::Many))),
+        ("client 0\nschedule", " !0/0:w", 1000, None),
+        ("client 0\nschedule", " !0/0:w", 1001, Some((2, Why::Many))),
+        ("client 0\nschedule w", " !0 !0/0:t0", 500, None),
+        (
+            "client 0\nschedule !0",
+            " !0 !0/0:t0",
+            500,
+            Some((2, Why::Many)),
+        ),
         ("", "\n", 1_048_576, Some((1, Why::Word))),
         ("", "\n", 1_048_577, Some((1_048_577, Why::Long))),
         ("client 0\n", "a", 1_048_568, Some((2, Why::Long))),
