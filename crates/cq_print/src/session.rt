@@ -4,7 +4,7 @@ ghost use Rattle.cq_bytes.specs.Numbers.{contains};
 ghost use Rattle.cq_disk.specs.Call.{CausedOf};
 ghost use Rattle.cq_io.specs.Streams.{Adds};
 ghost use Rattle.cq_journal.specs.Legal.{Legal};
-ghost use Rattle.cq_print.specs.Text.{session_line, text_of, confirm_of, confirmed_lines, clients_end, client_end, is_delivery_to, opened_by, opened_lines};
+ghost use Rattle.cq_print.specs.Text.{session_line, text_of, confirm_of, confirmed_lines, clients_end, client_end, is_delivery_to, opened_line, opened_by, opened_lines};
 ghost use Rattle.cq_print.specs.Bodies.{shown};
 ghost use Rattle.cq_print.specs.Counts.{counts_lines};
 ghost use Rattle.cq_print.specs.Lines.{answers, line_of, own_line, reply_lines, last_place, left_out, client_lines, clients_lines};
@@ -91,6 +91,15 @@ fn put_line<W: Sink>(sink: &mut W, line: &[u8]) -> Result<(), PutError>
     }
 }
 
+/// Puts the line of a queue with its count.
+fn put_count<W: Sink>(alloc: Global, queue: u32, count: usize, sink: &mut W) -> Result<(), PutError>
+    ensures ok { OnOk result (Adds (W.pieces sink.old) (W.pieces sink.new) (opened_line queue count ∷ [])) }
+    ensures cause { CausedOf PutError.Output (W.faults sink.old) (W.faults sink.new) result }
+{
+    let line = opened_line(alloc, queue, count)?;
+    put_line(sink, &line)
+}
+
 /// Puts the lines of queues with their counts, in the map's order.
 fn put_counts<W: Sink>(
     alloc: Global,
@@ -101,8 +110,7 @@ fn put_counts<W: Sink>(
     ensures cause { CausedOf PutError.Output (W.faults sink.old) (W.faults sink.new) result }
 {
     for (queue, count) in counts {
-        let line = opened_line(alloc, *queue, *count)?;
-        put_line(sink, &line)?;
+        put_count(alloc, *queue, *count, sink)?;
     }
     Ok(())
 }
