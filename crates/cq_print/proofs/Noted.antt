@@ -20,7 +20,7 @@ line_body-push x (k ∷ ks) l =
     ap (λ o. or_else o (cond (k.id == x) (Some k.body) None)) (line_body-push x ks l)
     ∙ sym (or_else-assoc (cond (l.id == x) (Some l.body) None) (line_body x ks) (cond (k.id == x) (Some k.body) None))
 
-taken-next : (lines : List Line) (at : ℕ) (l : Line) → slice_get lines at ≡ Some l → take (at + 1) lines ≡ take at lines ++ l ∷ []
+pub taken-next : (lines : List Line) (at : ℕ) (l : Line) → slice_get lines at ≡ Some l → take (at + 1) lines ≡ take at lines ++ l ∷ []
 taken-next lines at l h =
     rw (add-one, take-suc lines at l (slice_get_within lines at l h)) (ap (λ k. take at lines ++ k ∷ []) (get_or_from_slice_get lines at l l h))
 

@@ -103,6 +103,6 @@ clients-told past cut (suc n) bodies l f =
     ap (λ xs. xs ++ client_lines bodies past cut n) (clients-told past cut n bodies l f)
     ∙ ap (λ xs. clients_text past cut n ++ xs) (client-told past cut n bodies l (λ x h. f x))
 
--- what was put, under another name of its last part
-pub retold : {T E : Type 0} (result : Result T E) (old new : Option (List (List ℕ))) (head : List ℕ) (lines text : List (List ℕ)) → lines ≡ text → OnOk result (Adds old new (head ∷ lines)) → OnOk result (Adds old new (head ∷ text))
-retold result old new head lines text same put = subst (λ (t : List (List ℕ)). OnOk result (Adds old new (head ∷ t))) same put
+-- what was put, under another name
+pub retold : {T E : Type 0} (result : Result T E) (old new : Option (List (List ℕ))) (lines text : List (List ℕ)) → lines ≡ text → OnOk result (Adds old new lines) → OnOk result (Adds old new text)
+retold result old new lines text same put = subst (λ (t : List (List ℕ)). OnOk result (Adds old new t)) same put

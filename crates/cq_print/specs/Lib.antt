@@ -1,3 +1,4 @@
 pub mod Text
 pub mod Bodies
+pub mod Counts
 pub mod Lines

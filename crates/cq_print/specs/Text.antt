@@ -10,6 +10,8 @@ use Rattle.cq_journal.specs.declared.reply.Reply.TheVariants as reply
 use Rattle.cq_journal.specs.declared.event.Event.{Event}
 use Rattle.cq_journal.specs.declared.event.Event.TheVariants as event
 use Rattle.cq_journal.specs.declared.event.Entry.{Entry}
+use Rattle.cq_journal.specs.declared.lines.Line.{Line}
+use Rattle.cq_journal.specs.History.{opened_in}
 use Rattle.cq_journal.specs.Asks.{replies, reply_of}
 
 -- a body, as it is shown
@@ -41,6 +43,34 @@ confirmed_line client number = codes "c" ++ decimal client ++ codes " confirmed 
 -- the first line of a session
 abbrev pub session_line : ℕ → List ℕ
 session_line number = codes "session " ++ decimal number ++ 10 ∷ []
+
+-- the line of a queue that held so many messages at the opening
+abbrev pub opened_line : ℕ → ℕ → List ℕ
+opened_line queue count = codes "opened q" ++ decimal queue ++ codes " " ++ decimal count ++ 10 ∷ []
+
+-- the line of a queue that stands in the opened lines, and none of another
+abbrev pub opened_of : List Line → ℕ → List (List ℕ)
+opened_of lines q = let count = length (opened_in q lines) in if count == 0 then [] else opened_line q count ∷ []
+
+-- every queue of the opened lines is below this number
+abbrev pub queues_end : List Line → ℕ
+queues_end [] = 0
+queues_end (l ∷ lines) = max (l.queue + 1) (queues_end lines)
+
+-- the lines of the queues below a number, rising
+abbrev pub opened_text : List Line → ℕ → List (List ℕ)
+opened_text lines zero = []
+opened_text lines (suc q) = opened_text lines q ++ opened_of lines q
+
+-- the lines of an opening, and none of another event
+abbrev pub opened_by : Event → List (List ℕ)
+opened_by (event.Opened lines) = opened_text lines (queues_end lines)
+opened_by _ = []
+
+-- the lines of what the queues held at the opening
+abbrev pub opened_lines : List Entry → List (List ℕ)
+opened_lines [] = []
+opened_lines (e ∷ past) = opened_lines past ++ opened_by e.event
 
 -- the line of an event that confirms a message of the client, and none of another
 abbrev pub confirm_of : ℕ → Event → List (List ℕ)
@@ -94,4 +124,4 @@ clients_text past cut (suc n) = clients_text past cut n ++ client_text past cut 
 
 -- the text of a session, line by line
 abbrev pub text_of : ℕ → List Entry → List ℕ → List (List ℕ)
-text_of number past cut = session_line number ∷ clients_text past cut (clients_end past)
+text_of number past cut = session_line number ∷ (opened_lines past ++ clients_text past cut (clients_end past))

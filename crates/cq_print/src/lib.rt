@@ -3,6 +3,7 @@
 
 mod bodies;
 mod body;
+mod counts;
 mod lines;
 mod outcome;
 mod session;

@@ -1,7 +1,7 @@
 // The lines of a session.
 ghost use Rattle.std.specs.Prelude.{◌≡◌, ◌++◌, ◌∷◌, [], codes, IfOk, OnErr, IsErr, string_bytes};
 ghost use Rattle.std.specs.Fmt.{decimal};
-ghost use Rattle.cq_print.specs.Text.{reply_line, reply_text, confirmed_line, session_line};
+ghost use Rattle.cq_print.specs.Text.{reply_line, reply_text, confirmed_line, session_line, opened_line};
 
 use crate::body_text;
 use cq_journal::Reply;
@@ -32,6 +32,13 @@ pub fn session_line(alloc: Global, number: u64) -> Result<Vec<u8>, AllocError>
     ensures { IfOk result (λ line. line.items ≡ session_line number) }
 {
     Ok(format!(in alloc; "session {number}\n")?.into_bytes())
+}
+
+/// The line of a queue that held so many messages at the opening: `opened qQ COUNT`.
+pub fn opened_line(alloc: Global, queue: u32, count: usize) -> Result<Vec<u8>, AllocError>
+    ensures { IfOk result (λ line. line.items ≡ opened_line queue count) }
+{
+    Ok(format!(in alloc; "opened q{queue} {count}\n")?.into_bytes())
 }
 
 /// The line of a confirm.

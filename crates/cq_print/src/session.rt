@@ -4,14 +4,16 @@ ghost use Rattle.cq_bytes.specs.Numbers.{contains};
 ghost use Rattle.cq_disk.specs.Call.{CausedOf};
 ghost use Rattle.cq_io.specs.Streams.{Adds};
 ghost use Rattle.cq_journal.specs.Legal.{Legal};
-ghost use Rattle.cq_print.specs.Text.{session_line, text_of, confirm_of, confirmed_lines, clients_end, client_end, is_delivery_to};
+ghost use Rattle.cq_print.specs.Text.{session_line, text_of, confirm_of, confirmed_lines, clients_end, client_end, is_delivery_to, opened_line, opened_by, opened_lines};
 ghost use Rattle.cq_print.specs.Bodies.{shown};
+ghost use Rattle.cq_print.specs.Counts.{counts_lines};
 ghost use Rattle.cq_print.specs.Lines.{answers, line_of, own_line, reply_lines, last_place, left_out, client_lines, clients_lines};
 
 use crate::bodies::{bodies_of, body_of};
+use crate::counts::counts_of;
 use crate::lines::{
-    acked_line, busy_line, confirmed_line, empty_line, ended_line, got_line, published_line,
-    session_line, unknown_line,
+    acked_line, busy_line, confirmed_line, empty_line, ended_line, got_line, opened_line,
+    published_line, session_line, unknown_line,
 };
 use cq_io::Sink;
 use cq_journal::{Entry, Event, Session};
@@ -87,6 +89,53 @@ fn put_line<W: Sink>(sink: &mut W, line: &[u8]) -> Result<(), PutError>
         Ok(()) => Ok(()),
         Err(_) => Err(PutError::Output),
     }
+}
+
+/// Puts the line of a queue with its count.
+fn put_count<W: Sink>(alloc: Global, queue: u32, count: usize, sink: &mut W) -> Result<(), PutError>
+    ensures ok { OnOk result (Adds (W.pieces sink.old) (W.pieces sink.new) (opened_line queue count ∷ [])) }
+    ensures cause { CausedOf PutError.Output (W.faults sink.old) (W.faults sink.new) result }
+{
+    let line = opened_line(alloc, queue, count)?;
+    put_line(sink, &line)
+}
+
+/// Puts the lines of queues with their counts, in the map's order.
+fn put_counts<W: Sink>(
+    alloc: Global,
+    counts: &BTreeMap<u32, usize>,
+    sink: &mut W,
+) -> Result<(), PutError>
+    ensures ok { OnOk result (Adds (W.pieces sink.old) (W.pieces sink.new) (counts_lines counts.now.entries)) }
+    ensures cause { CausedOf PutError.Output (W.faults sink.old) (W.faults sink.new) result }
+{
+    for (queue, count) in counts {
+        put_count(alloc, *queue, *count, sink)?;
+    }
+    Ok(())
+}
+
+/// Puts the lines of what the queues held at an opening, rising, and nothing for another event.
+fn put_opening<W: Sink>(alloc: Global, event: &Event, sink: &mut W) -> Result<(), PutError>
+    ensures ok { OnOk result (Adds (W.pieces sink.old) (W.pieces sink.new) (opened_by event.now)) }
+    ensures cause { CausedOf PutError.Output (W.faults sink.old) (W.faults sink.new) result }
+{
+    let Event::Opened { lines } = event else {
+        return Ok(());
+    };
+    let counts = counts_of(alloc, lines)?;
+    put_counts(alloc, &counts, sink)
+}
+
+/// Puts the lines of what the queues held at the opening.
+fn put_opened<W: Sink>(alloc: Global, entries: &[Entry], sink: &mut W) -> Result<(), PutError>
+    ensures ok { OnOk result (Adds (W.pieces sink.old) (W.pieces sink.new) (opened_lines (reverse entries.now))) }
+    ensures cause { CausedOf PutError.Output (W.faults sink.old) (W.faults sink.new) result }
+{
+    for entry in entries {
+        put_opening(alloc, &entry.event, sink)?;
+    }
+    Ok(())
 }
 
 /// Puts the line of the event at a place, where it answers the client and isn't left out.
@@ -273,17 +322,19 @@ fn put_text<W: Sink>(
     bodies: &BTreeMap<u128, &[u8]>,
     sink: &mut W,
 ) -> Result<(), PutError>
-    ensures ok { OnOk result (Adds (W.pieces sink.old) (W.pieces sink.new) (session_line number ∷ clients_lines (shown bodies.now) (reverse entries.now) cut.now (clients_end (reverse entries.now)))) }
+    ensures ok { OnOk result (Adds (W.pieces sink.old) (W.pieces sink.new) (session_line number ∷ (opened_lines (reverse entries.now) ++ clients_lines (shown bodies.now) (reverse entries.now) cut.now (clients_end (reverse entries.now))))) }
     ensures cause { CausedOf PutError.Output (W.faults sink.old) (W.faults sink.new) result }
 {
     let head = session_line(alloc, number)?;
     put_line(sink, &head)?;
+    put_opened(alloc, entries, sink)?;
     put_clients(alloc, entries, cut, bodies, sink)
 }
 
-/// Puts the text of the session with this number: `session K`; then for each client, rising, the lines of its replies
-/// in order, without the last delivery of a client that was cut off, and its confirms in order. Each line is one put.
-/// `Output` comes only where the sink failed. A journal that isn't legal may be shown with other bodies.
+/// Puts the text of the session with this number: `session K`; then `opened qQ COUNT` for each queue, rising, that held
+/// messages at the opening; then for each client, rising, the lines of its replies in order, without the last delivery
+/// of a client that was cut off, and its confirms in order. Each line is one put. `Output` comes only where the sink
+/// failed. A journal that isn't legal may be shown with other bodies.
 pub fn put_session<W: Sink>(
     alloc: Global,
     number: u64,

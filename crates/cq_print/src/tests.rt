@@ -87,15 +87,20 @@ fn journal_of(alloc: Global, events: Vec<Event>) -> Result<Journal, AllocError> 
     Ok(journal)
 }
 
-/// The text of session 0 over these events.
-fn text_of(alloc: Global, events: Vec<Event>, cut: Vec<u32>) -> Result<MemSink, AllocError> {
+/// The text of the session with this number over these events.
+fn text_of(
+    alloc: Global,
+    number: u64,
+    events: Vec<Event>,
+    cut: Vec<u32>,
+) -> Result<MemSink, AllocError> {
     let session = Session {
         journal: journal_of(alloc, events)?,
         cut,
         after: Vec::new(alloc),
     };
     let mut sink = MemSink::new(alloc, Vec::new(alloc));
-    match put_session(alloc, 0, &session, &mut sink) {
+    match put_session(alloc, number, &session, &mut sink) {
         Ok(()) => Ok(sink),
         Err(_) => Err(AllocError),
     }
@@ -137,7 +142,7 @@ fn a_session_is_put_client_by_client(rt: HostRuntime) -> Result<(), Fail> {
             id: 1
         },
     ]?;
-    let sink = text_of(alloc, events, Vec::new(alloc))?;
+    let sink = text_of(alloc, 0, events, Vec::new(alloc))?;
     let text =
         "session 0\nc0 published 0\nc0 got 0 q0 5 text other\nc0 got 1 q0 5 text hello\nc0 empty q0\nc0 confirmed 0\nc1 published 0\nc1 confirmed 0\n";
     assert_eq!(rt; sink.taken(), text.as_bytes());
@@ -166,8 +171,45 @@ fn a_delivery_that_was_cut_off_is_not_told(rt: HostRuntime) -> Result<(), Fail> 
             id: 2
         },
     ]?;
-    let sink = text_of(alloc, events, vec![in alloc; 0]?)?;
+    let sink = text_of(alloc, 0, events, vec![in alloc; 0]?)?;
     let text = "session 0\nc0 published 0\nc0 published 1\nc0 got 0 q0 2 text m0\n";
     assert_eq!(rt; sink.taken(), text.as_bytes());
+    Ok(())
+}
+
+/// A session's events over a folder that held a message in each of these queues: its opening and one get.
+fn opened(alloc: Global, queues: &[u32]) -> Result<Vec<Event>, AllocError> {
+    let mut lines = Lines::new(alloc);
+    for (place, queue) in queues.iter().enumerate() {
+        lines.push(*queue, place as u128 + 1, Body::copy(alloc, b"m")?)?;
+    }
+    let events = vec![in alloc;
+        Event::Opened { lines },
+        Event::Empty {
+            client: 0,
+            queue: 1
+        },
+    ]?;
+    Ok(events)
+}
+
+#[test]
+fn what_the_queues_held_stands_before_the_clients(rt: HostRuntime) -> Result<(), Fail> {
+    let alloc = rt.alloc();
+    let rows = [
+        (
+            [0, 7, 0],
+            "session 1\nopened q0 2\nopened q7 1\nc0 empty q1\n",
+        ),
+        (
+            [7, 4_294_967_295, 7],
+            "session 1\nopened q7 2\nopened q4294967295 1\nc0 empty q1\n",
+        ),
+    ];
+    for (queues, text) in rows {
+        let events = opened(alloc, &queues)?;
+        let sink = text_of(alloc, 1, events, Vec::new(alloc))?;
+        assert_eq!(rt; sink.taken(), text.as_bytes());
+    }
     Ok(())
 }
