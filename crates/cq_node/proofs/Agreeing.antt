@@ -1,5 +1,5 @@
 -- Calls on the queue's files keep the journal steady.
-use Rattle.std.proofs.Common.{◌≡◌, ◌≢◌, inl, ℕ, ◌≤◌, List, ◌++◌, Option, Some, None, sym, ap, ◌∙◌, subst}
+use Rattle.std.proofs.Common.{◌≡◌, ◌≢◌, inl, ℕ, ◌+◌, ◌≤◌, List, ◌++◌, Option, Some, None, sym, ap, ◌∙◌, subst}
 use Rattle.cq_disk.specs.declared.name.Name.{Name}
 use Rattle.cq_disk.specs.Call.{Image, LeavesOnly}
 use Rattle.cq_disk.specs.File.{File, IsFileImage, fresh, settled}
@@ -7,6 +7,7 @@ use Rattle.cq_disk.specs.Files.{IsImageOf, IsImage, Becomes, Creates}
 use Rattle.cq_gate.specs.Format.{content}
 use Rattle.cq_gate.specs.Gated.{Step}
 use Rattle.cq_entry.specs.declared.entry.Entry.{Entry as IndexEntry}
+use Rattle.cq_small.specs.Record.{HasRecord, StandsIn}
 use Rattle.cq_small.specs.Store.{small_name}
 use Rattle.cq_index.specs.Places.{index_name, entries_bytes}
 use Rattle.cq_journal.specs.declared.event.Entry.{Entry}
@@ -28,10 +29,10 @@ come_made old new name past lines entries ms absent made will contents reads =
     will contents (at_name (λ n. contents n ≡ content_in (old n)) name (reads name ∙ ap content_in made.this ∙ sym (ap content_in absent)) (λ n other. reads n ∙ ap content_in (made.others n other)))
 
 -- and once the records have joined the small store
-pub come_joined : (old new : Name → Option File) (records : List ℕ) (past : List Entry) (lines : ℕ → List Message) (entries : List IndexEntry) (ms : List Message)
-    → content_in (new (small_name 0 0)) ≡ content_in (old (small_name 0 0)) ++ records → ((n : Name) → n ≢ small_name 0 0 → new n ≡ old n) → WillJoin old records past lines entries ms → WillCome new past lines entries ms
-come_joined old new records past lines entries ms more others will contents reads =
-    will contents (reads (small_name 0 0) ∙ more) (λ n other. reads n ∙ ap content_in (others n other))
+pub come_joined : (old new : Name → Option File) (base : ℕ) (records : List ℕ) (past : List Entry) (lines : ℕ → List Message) (entries : List IndexEntry) (ms : List Message)
+    → ((offset : ℕ) (body : List ℕ) → HasRecord records offset body → StandsIn (content_in (new (small_name 0 0))) (base + offset) body) → ((n : Name) → n ≢ small_name 0 0 → new n ≡ old n) → WillJoin old base records past lines entries ms → WillCome new past lines entries ms
+come_joined old new base records past lines entries ms added others will contents reads =
+    will contents (λ offset body has. subst (λ c. StandsIn c (base + offset) body) (sym (reads (small_name 0 0))) (added offset body has)) (λ n other. reads n ∙ ap content_in (others n other))
 
 -- a file that was made, whatever stood on the disk
 pub made_stands : (old new : Name → Option File) (name : Name) → old name ≡ None → Becomes name (Some fresh) old new → StaysStanding old new

@@ -1,12 +1,4 @@
-pub mod Numbered
-pub mod Laid
-pub mod Holds
-pub mod Writes
-pub mod Steps
-pub mod Found
-pub mod Batches
-pub mod Counts
 pub mod Files
+pub mod Few
 pub mod Agreeing
-pub mod Passing
-pub mod Steadying
+pub mod Fused

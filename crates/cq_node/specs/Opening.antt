@@ -1,5 +1,7 @@
 -- What an opening finds.
-use Rattle.std.specs.Prelude.{◌≡◌, ℕ, ◌≤◌, List, [], ◌∷◌, drop, Option}
+use Rattle.std.specs.Prelude.{◌≡◌, ℕ, ◌+◌, ◌≤◌, List, [], ◌∷◌, drop, Option}
+use Rattle.std.specs.Coded.{le_prop}
+use Rattle.std.specs.List.{AllByRecursion}
 use Rattle.cq_disk.specs.declared.name.Name.{Name}
 use Rattle.cq_disk.specs.declared.disk.OpenError.{OpenError}
 use Rattle.cq_disk.specs.declared.disk.OpenError.TheVariants.{Fault, Memory, Damaged}
@@ -52,6 +54,17 @@ told_of (back.Damaged name place found) = Damaged name place found
 abbrev pub unsent : List Entry → List Message
 unsent journal = drop (delivered journal 0) (stored journal)
 
--- where places stand, as a proposition
+-- each record lies before this place
+abbrev pub AreWithin : ℕ → List Spot → Type 0
+AreWithin end spots = AllByRecursion (λ s. s.place + s.len + 5 ≤ end) spots
+
+AreWithin-prop : (end : ℕ) (spots : List Spot) → IsProp (AreWithin end spots)
+AreWithin-prop end [] = hlevel
+AreWithin-prop end (s ∷ spots) = hlevel (le_prop, AreWithin-prop end spots)
+
+-- the same as propositions, so that a struct can keep them
+pub WithinWhere-prop : (running : Type 0) (end : ℕ) (spots : List Spot) → IsProp (running → AreWithin end spots)
+WithinWhere-prop running end spots = hlevel (AreWithin-prop end spots)
+
 pub PlacedWhere-prop : (running told : Type 0) (content : List ℕ) (spots : List Spot) (ms : List Message) → IsProp (running → told → AreAt content spots ms)
 PlacedWhere-prop running told content spots ms = hlevel (AreAt-prop content spots ms)

@@ -1,6 +1,5 @@
 // A node over a disk.
 ghost use Rattle.std.specs.Prelude.{◌≡◌, ◌<◌, ◌≤◌, ◌+◌, ◌-◌, ◌*◌, ◌^◌, ◌∷◌, ◌++◌, [], ℕ, List, Some, true, false, min, IfOk, IfErr, OnOk, OnErr, IsErrOf, IsOk, ◌↔◌, length, map};
-ghost use Rattle.std.specs.List.{AllByRecursion};
 ghost use Rattle.cq_disk.specs.declared.disk.OpenError.TheVariants.{Fault as open_fault};
 ghost use Rattle.cq_disk.specs.Rose.{Rose};
 ghost use Rattle.cq_disk.specs.Files.{IsImage, SameFiles};
@@ -27,7 +26,7 @@ ghost use Rattle.cq_core.specs.Stored.{AreAt, content_in};
 ghost use Rattle.cq_node.specs.declared.outcome.NodeError.TheVariants.{Fault as node_fault};
 ghost use Rattle.cq_node.specs.Agreeing.{stored_lines};
 ghost use Rattle.cq_node.specs.Files.{small_length, small_calls, index_calls, HasNoOther, HasFew, IsSmallFile, IsIndexFile};
-ghost use Rattle.cq_node.specs.Opening.{IsOpening, IfBroken, Went, spot_of, told_of, unsent, PlacedWhere-prop};
+ghost use Rattle.cq_node.specs.Opening.{IsOpening, IfBroken, Went, spot_of, told_of, unsent, AreWithin, WithinWhere-prop, PlacedWhere-prop};
 ghost use Rattle.cq_node.specs.Turned.{Turned, Answered, Wrote, IsIdle, HasDone};
 ghost use Rattle.cq_node.specs.Waiting.{is_servable, kept_count};
 
@@ -63,7 +62,7 @@ pub struct Node<D: Disk> {
     ghost stamped: { newest core.entries ≤ D.moment store.disk },
     ghost few: { opened + publishes (asks core.entries 0) + publishes waiting.requests ≤ 4096 },
     ghost counted: { store.halted ≡ false → count_of store.index ≡ opened + confirmed core.entries },
-    ghost within: { store.halted ≡ false → AllByRecursion (λ s. s.place + s.len + 5 ≤ small_length store.small) core.places },
+    ghost within: { store.halted ≡ false → AreWithin (small_length store.small) core.places } by { WithinWhere-prop (store.halted ≡ false) (small_length store.small) core.places },
     ghost placed: { store.halted ≡ false → D.tells → AreAt (content_in (D.files store.disk (small_name 0 0))) core.places (unsent core.entries) } by { PlacedWhere-prop (store.halted ≡ false) D.tells (content_in (D.files store.disk (small_name 0 0))) core.places (unsent core.entries) },
     ghost whole: { D.tells → IsWhole core },
     ghost standing: { store.halted ≡ false → D.tells → ∥ Standing (D.files store.disk) core.entries (stored_lines core.entries) ∥₁ },
@@ -436,7 +435,7 @@ impl<D: Crashable> Node<D> {
         ensures struck { D.struck self.new.store.disk ≡ D.struck self.old.store.disk }
         ensures planned { D.planned self.new.store.disk ≡ D.planned self.old.store.disk }
     {
-        self.store.disk.fuse(calls);
+        self.store.fuse(calls);
     }
 }
 
@@ -449,7 +448,7 @@ fn open_queue<D: Disk>(alloc: Global, disk: &mut D) -> Result<Opened, OpenError>
     ensures standing { IfOk result (λ found. D.tells → ∥ Standing (D.files disk.new) found.core.entries (stored_lines found.core.entries) ∥₁) }
     ensures steady { IfOk result (λ found. D.tells → Steady (D.left disk.new) (D.moment disk.new) found.core.entries) }
     ensures placed { IfOk result (λ found. D.tells → AreAt (content_in (D.files disk.new (small_name 0 0))) found.core.places (unsent found.core.entries)) }
-    ensures within { IfOk result (λ found. AllByRecursion (λ s. s.place + s.len + 5 ≤ small_length found.small) found.core.places) }
+    ensures within { IfOk result (λ found. AreWithin (small_length found.small) found.core.places) }
     ensures small { IfOk result (λ found. IsSmallFile D.tells found.small (D.files disk.new (small_name 0 0))) }
     ensures index { IfOk result (λ found. IsIndexFile D.tells found.made found.segment (D.files disk.new (index_name 0 0))) }
     ensures count { IfOk result (λ found. D.tells → length (contents_of (as_read (D.files disk.old)) (index_name 0 0)) ≡ entry_len * count_of found.segment) }

@@ -1,7 +1,8 @@
 // The files of the queue on a disk.
-ghost use Rattle.std.specs.Prelude.{◌≡◌, ◌≢◌, ◌<◌, ◌≤◌, ◌+◌, ◌^◌, ◌++◌, ℕ, List, [], length, All, OnOk, OnErr, IfOk, Some, None, true, false, if◌then◌else◌};
+ghost use Rattle.std.specs.Prelude.{◌≡◌, ◌≢◌, ◌<◌, ◌≤◌, ◌+◌, ◌-◌, ◌^◌, min, ℕ, List, [], length, All, OnOk, OnErr, IfOk, Some, None, true, false, if◌then◌else◌};
 ghost use Rattle.cq_disk.specs.declared.name.Name.{Name};
 ghost use Rattle.cq_disk.specs.Files.{IsImage, IsThere, SameFiles};
+ghost use Rattle.cq_memdisk.specs.Crash.{SameLeft};
 ghost use Rattle.cq_disk.specs.Call.{LeavesOnly, Caused, StruckBy, KeepsPlan};
 ghost use Rattle.cq_journal.specs.declared.event.Entry.{Entry as JournalEntry};
 ghost use Rattle.cq_journal.specs.declared.event.Message.{Message};
@@ -21,6 +22,7 @@ ghost use Rattle.cq_core.specs.Stored.{content_in};
 use cq_disk::{Disk, Fault};
 use cq_entry::Entry;
 use cq_index::Segment;
+use cq_memdisk::Crashable;
 use cq_small::{SmallBatch, SmallStore};
 use std::alloc::{AllocError, Global};
 
@@ -143,6 +145,22 @@ impl<D: Disk> Store<D> {
         self.small = Some(small);
         self.halted = false;
         Ok(())
+    }
+}
+
+impl<D: Crashable> Store<D> {
+    /// After this many further device calls each one fails. Nothing else changes.
+    pub fn fuse(&mut self, calls: u64)
+        ensures set { D.fuse self.new.disk ≡ Some (min (D.moment self.old.disk + calls) (2 ^ 64 - 1)) }
+        ensures same { (self.new.halted ≡ self.old.halted) × (self.new.small ≡ self.old.small) × (self.new.index ≡ self.old.index) × (self.new.made ≡ self.old.made) }
+        ensures files { SameFiles (D.files self.old.disk) (D.files self.new.disk) }
+        ensures left { SameLeft (D.left self.old.disk) (D.left self.new.disk) }
+        ensures moment { D.moment self.new.disk ≡ D.moment self.old.disk }
+        ensures faults { D.faults self.new.disk ≡ D.faults self.old.disk }
+        ensures struck { D.struck self.new.disk ≡ D.struck self.old.disk }
+        ensures planned { D.planned self.new.disk ≡ D.planned self.old.disk }
+    {
+        self.disk.fuse(calls);
     }
 }
 
