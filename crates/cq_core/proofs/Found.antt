@@ -1,9 +1,9 @@
 -- What the next get finds, and what a journal's reader is told, by what is kept.
-use Rattle.std.proofs.Common.{◌≡◌, ◌≢◌, ℕ, ◌+◌, ◌-◌, ◌<◌, ◌≤◌, true, false, List, [], ◌∷◌, ◌++◌, length, take, drop, get_or, refl, sym, ap, ◌∙◌, subst, arith, inl, inr}
+use Rattle.std.proofs.Common.{◌≡◌, ℕ, ◌+◌, ◌-◌, ◌≤◌, false, List, [], ◌∷◌, ◌++◌, length, take, drop, refl, sym, ap, ◌∙◌, subst, arith, inl, inr}
 use Rattle.std.specs.Prelude.{◌==◌}
 use Rattle.std.specs.List.{list_any, AllByRecursion}
-use Rattle.std.proofs.lemmas.Bool.{cases_lt, false≢true, or_from, or_parts, and_right, eqb-false, ne_eqb}
-use Rattle.std.proofs.lemmas.List.{drop_more, drop-drop, length-drop, length-take-le, take-append-drop, take_all, drop-append-le, take-append-le, nil_from_length}
+use Rattle.std.proofs.lemmas.Bool.{false≢true, or_from, or_parts, and_right, eqb-false, ne_eqb}
+use Rattle.std.proofs.lemmas.List.{length-drop, length-take-le, take-append-drop, drop-append-le, take-append-le, nil_from_length}
 use Rattle.cq_journal.specs.declared.event.Event.{Event}
 use Rattle.cq_journal.specs.declared.event.Event.TheVariants.{Opened, Published, Delivered, Empty, Busy, Acked, Unknown, Dropped, Ended, Confirmed, Settled}
 use Rattle.cq_journal.specs.declared.event.Entry.{Entry}
@@ -13,14 +13,14 @@ use Rattle.cq_journal.specs.declared.reply.Reply.{Reply}
 use Rattle.cq_journal.specs.History.{has_id, line, waiting, adds}
 use Rattle.cq_journal.specs.Asks.{body_of}
 use Rattle.cq_journal.specs.Confirms.{confirms, confirmed, AreConfirmed}
-use Rattle.cq_journal.specs.Legal.{brings, has, is_publish, is_confirmed_by, published, AreLines, Allowed, IsFirst, Legal}
+use Rattle.cq_journal.specs.Legal.{brings, has, is_publish, AreLines, Allowed, IsFirst, Legal}
 use Rattle.cq_journal.proofs.Laws.{body_of-first, line-unbrought}
 use Rattle.cq_held.specs.Held.{Zip}
 use Rattle.cq_core.specs.declared.queue.Spot.{Spot}
-use Rattle.cq_core.specs.Core.{State, IsKept, AreWritable, IsWritable, undecided}
+use Rattle.cq_core.specs.Core.{IsKept, AreWritable, IsWritable, undecided}
 use Rattle.cq_core.specs.Ids.{Numbering}
-use Rattle.cq_core.specs.Found.{IsFirstMessage, IsFirstBody, IsStoredFirst}
-use Rattle.cq_core.specs.Stored.{IsSpotOf, IsFirstSpot, opens, opened_count, stored_count, stored, unstored}
+use Rattle.cq_core.specs.Found.{IsFirstBody, IsStoredFirst}
+use Rattle.cq_core.specs.Stored.{IsSpotOf, IsFirstSpot, opens, stored_count, stored, unstored}
 use Rattle.cq_core.proofs.Messages.{below_length, zip_length, zip_first, Beside, all_at}
 
 -- what publishes an id brings it
