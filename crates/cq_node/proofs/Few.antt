@@ -74,3 +74,11 @@ module _ {D : Type 0} (moment : D → ℕ) (left : D → ℕ → ℕ → Image �
       (λ none. omega (arith, ap (λ o. length (content_of o)) (sym (at_it (as_read (files new)) name c) ∙ none)))
       (λ some. omega (arith, ap (λ o. length (content_of o)) (sym (at_it (as_read (files new)) name c) ∙ some)))
       on.this
+
+-- a file that is as it was
+pub same_few : (old new : Option File) (n : ℕ) → new ≡ old → HasFew old n → HasFew new n
+same_few old new n same few = subst (λ (slot : Option File). HasFew slot n) (sym same) few
+
+-- a greater bound
+pub more_few : (slot : Option File) (n more : ℕ) → HasFew slot n → HasFew slot (n + more)
+more_few slot n more few c is = omega (arith, few c is)

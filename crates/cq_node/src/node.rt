@@ -22,11 +22,11 @@ ghost use Rattle.cq_back.specs.Found.{BreaksFolder};
 ghost use Rattle.cq_core.specs.Answers.{bodiless};
 ghost use Rattle.cq_core.specs.Core.{IsWhole, TakesNextIds};
 ghost use Rattle.cq_core.specs.Found.{Finds};
-ghost use Rattle.cq_core.specs.Stored.{AreAt, content_in};
+ghost use Rattle.cq_core.specs.Stored.{AreAt, content_in, unsent};
 ghost use Rattle.cq_node.specs.declared.outcome.NodeError.TheVariants.{Fault as node_fault};
 ghost use Rattle.cq_node.specs.Agreeing.{stored_lines};
 ghost use Rattle.cq_node.specs.Files.{small_length, small_calls, index_calls, HasNoOther, HasFew, IsSmallFile, IsIndexFile};
-ghost use Rattle.cq_node.specs.Opening.{IsOpening, IfBroken, Went, spot_of, told_of, unsent, AreWithin, WithinWhere-prop, PlacedWhere-prop};
+ghost use Rattle.cq_node.specs.Opening.{IsOpening, IfBroken, Went, spot_of, told_of, AreWithin, WithinWhere-prop, PlacedWhere-prop};
 ghost use Rattle.cq_node.specs.Turned.{Turned, Answered, Wrote, IsIdle, HasDone};
 ghost use Rattle.cq_node.specs.Waiting.{is_servable, kept_count};
 
