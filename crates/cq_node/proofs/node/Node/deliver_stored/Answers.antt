@@ -8,7 +8,7 @@ use Rattle.cq_index.specs.Places.{index_name}
 use Rattle.cq_journal.specs.Asks.{asks}
 use Rattle.cq_journal.specs.Confirms.{confirmed}
 use Rattle.cq_core.specs.declared.queue.Spot.{Spot}
-use Rattle.cq_core.specs.Stored.{AreAt, content_in}
+use Rattle.cq_core.specs.Stored.{AreAt, content_in, unsent}
 use Rattle.cq_core.proofs.Counts.{answered-publishes}
 use Rattle.cq_inbox.specs.declared.request.Request.TheVariants.{Get}
 use Rattle.cq_node.specs.Files.{HasFew, small_length}
@@ -17,7 +17,6 @@ use Rattle.cq_node.proofs.Answered.{few_upto, placed_next, within_drop}
 use Rattle.cq_held.proofs.One.{same_body}
 use Rattle.cq_core.specs.Found.{IsFirstBody, IsStoredFirst}
 use Rattle.cq_node.specs.Agreeing.{stored_lines}
-use Rattle.cq_node.specs.Opening.{unsent}
 use Rattle.cq_node.proofs.Few.{same_few}
 use Rattle.cq_node.proofs.Steadying.{answered_stands, answered_steady, looked_stands, looked_steady}
 use Rattle.cq_node.proofs.Writes.{no_error, an_error}
