@@ -2,3 +2,4 @@ pub mod Files
 pub mod Few
 pub mod Agreeing
 pub mod Fused
+pub mod Opening
