@@ -1,12 +1,11 @@
 -- What an opening found, as a node keeps it.
-use Rattle.std.proofs.Common.{◌≡◌, ◌≢◌, ◌⊎◌, inl, inr, ⊎_elim, ℕ, ◌+◌, ◌*◌, ◌≤◌, Bool, List, [], ◌∷◌, length, map, Option, Some, None, refl, sym, ap, ◌∙◌, subst, arith}
+use Rattle.std.proofs.Common.{◌≡◌, ◌≢◌, ◌⊎◌, inl, inr, ℕ, ◌+◌, ◌*◌, ◌≤◌, Bool, List, [], ◌∷◌, length, map, Option, Some, None, refl, sym, ap, ◌∙◌, subst, arith}
 use Rattle.std.specs.Prelude.{if◌then◌else◌}
 use Rattle.std.specs.List.{AllByRecursion}
 use Rattle.std.proofs.lemmas.Bool.{cases_eq, eq-eqb, ne_eqb}
 use Rattle.cq_disk.specs.declared.name.Name.{Name}
-use Rattle.cq_disk.specs.declared.disk.OpenError.{OpenError}
 use Rattle.cq_disk.specs.Call.{Image}
-use Rattle.cq_disk.specs.File.{File, IsFileImage, settled}
+use Rattle.cq_disk.specs.File.{File, IsFileImage}
 use Rattle.cq_disk.specs.FileLemmas.{settled_only}
 use Rattle.cq_disk.specs.Files.{HasFile, IsImage, IsImageOf}
 use Rattle.cq_gate.specs.declared.gate.Gate.{Gate}
@@ -16,14 +15,13 @@ use Rattle.cq_small.specs.declared.store.SmallStore.{SmallStore}
 use Rattle.cq_small.specs.Store.{small_name}
 use Rattle.cq_index.specs.declared.segment.Segment.{Segment}
 use Rattle.cq_index.specs.Codec.{entry_len}
-use Rattle.cq_index.specs.Places.{index_name}
 use Rattle.cq_index.specs.Segments.{count_of, IsSegment}
 use Rattle.cq_journal.specs.declared.event.Entry.{Entry}
 use Rattle.cq_journal.specs.declared.event.Message.{Message}
 use Rattle.cq_journal.specs.declared.lines.Line.{Line}
 use Rattle.cq_journal.specs.History.{line, opened_in}
 use Rattle.cq_journal.specs.Legal.{AreLines}
-use Rattle.cq_held.specs.Held.{Zip, IsMessageOf, as_read, bytes_in, content_of, contents_of, spots}
+use Rattle.cq_held.specs.Held.{Zip, IsMessageOf, as_read, bytes_in, contents_of, spots}
 use Rattle.cq_held.specs.Folder.{IsSettled}
 use Rattle.cq_held.specs.Steady.{Steady}
 use Rattle.cq_held.specs.Standing.{Standing, StillHolds}
@@ -37,7 +35,6 @@ use Rattle.cq_back.specs.Folder.{index_file, small_file, IsOneQueue, IsShort}
 use Rattle.cq_back.specs.Read.{messages, entries_of, len_in, AreHeld, AreMatched, IfDamaged}
 use Rattle.cq_back.proofs.Reading.{opened_messages, opened_none}
 use Rattle.cq_back.proofs.Sounds.{content_bytes}
-use Rattle.cq_core.specs.declared.queue.Spot.{Spot}
 use Rattle.cq_core.specs.Stored.{IsSpotOf, AreAt, ids_of, stored, content_in}
 use Rattle.cq_node.specs.Agreeing.{stored_lines}
 use Rattle.cq_node.specs.Files.{HasNoOther, HasFew, small_length}

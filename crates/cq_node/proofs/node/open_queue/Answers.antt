@@ -1,17 +1,17 @@
-use Rattle.std.proofs.Common.{rules, ◌≡◌, ℕ, List, [], ◌∷◌, drop, map, sym, ap, ◌∙◌, subst}
+use Rattle.std.proofs.Common.{◌≡◌, ℕ, List, [], ◌∷◌, drop, map, sym, ap, ◌∙◌, subst}
 use Rattle.cq_small.specs.Store.{small_name}
 use Rattle.cq_index.proofs.Known.{filed}
 use Rattle.cq_index.specs.Places.{index_name}
 use Rattle.cq_journal.specs.declared.event.Entry.{Entry}
 use Rattle.cq_journal.specs.declared.event.Message.{Message}
-use Rattle.cq_journal.specs.History.{line, opened_in}
+use Rattle.cq_journal.specs.History.{opened_in}
 use Rattle.cq_journal.specs.Legal.{delivered}
 use Rattle.cq_held.specs.Held.{Zip, as_read}
 use Rattle.cq_held.specs.Steady.{SoundBy}
 use Rattle.cq_held.specs.Laws.{opening}
 use Rattle.cq_back.specs.declared.found.HeldEntry.{HeldEntry}
 use Rattle.cq_core.specs.declared.queue.Spot.{Spot}
-use Rattle.cq_core.specs.Stored.{AreAt, IsSpotOf, ids_of, content_in, stored}
+use Rattle.cq_core.specs.Stored.{AreAt, IsSpotOf, content_in, stored}
 use Rattle.cq_node.specs.Files.{HasFew, small_length}
 use Rattle.cq_node.specs.Opening.{AreWithin, IfBroken, spot_of}
 use Rattle.cq_node.proofs.Opening.{spots_found, ids_found, spots_stand, spots_within, one_queue, is_short, broken_to, few_found, line_opened, found_stands, found_steady}
