@@ -1,7 +1,8 @@
 -- Small stores whose index isn't there hold nothing: with or without them, a folder holds the same.
-use Rattle.std.proofs.Common.{◌≡◌, ◌⊎◌, inl, inr, ⊎_elim, ℕ, zero, suc, ◌≤◌, ◌<◌, List, [], ◌∷◌, ◌++◌, Bool, true, false, Option, Some, None, Result, Ok, Err, IfOk, OnOk, IsSome, length, refl, sym, ◌∙◌, ap, subst, arith}
+use Rattle.std.proofs.Common.{◌≡◌, ◌⊎◌, inl, inr, ⊎_elim, ℕ, zero, suc, ◌≤◌, ◌<◌, List, [], ◌∷◌, ◌++◌, Bool, true, false, Option, Some, None, Result, Ok, Err, IfOk, OnOk, IsSome, length, drop, refl, sym, ◌∙◌, ap, subst, arith}
 use Rattle.std.specs.List.{AllByRecursion}
 use Rattle.std.proofs.lemmas.Bool.{false≢true}
+use Rattle.std.proofs.lemmas.List.{length-take, length-drop}
 use Rattle.cq_disk.specs.declared.name.Name.{Name}
 use Rattle.cq_disk.specs.declared.name.Kind.TheVariants.{Index, Small}
 use Rattle.cq_disk.specs.Call.{Image}
@@ -12,15 +13,18 @@ use Rattle.cq_gate.specs.declared.gate.Gate.{Gate}
 use Rattle.cq_gate.specs.Gate.{IsGate}
 use Rattle.cq_entry.specs.declared.entry.Entry.{Entry}
 use Rattle.cq_entry.specs.declared.entry.Seen.{Seen}
+use Rattle.cq_entry.specs.Entry.{entry_bytes}
 use Rattle.cq_small.specs.Record.{StandsIn}
 use Rattle.cq_small.specs.declared.store.SmallStore.{SmallStore}
 use Rattle.cq_small.specs.Store.{small_name, gate_of}
 use Rattle.cq_small.specs.Store.{len_of as store_len}
 use Rattle.cq_index.specs.declared.segment.Segment.{Segment}
-use Rattle.cq_index.specs.Places.{index_name}
+use Rattle.cq_index.specs.Codec.{entry_len}
+use Rattle.cq_index.specs.Places.{index_name, place_of, entry_at}
 use Rattle.cq_index.specs.Segments.{count_of, gate_len, IsOpen, IsVacant, IsSegment}
 use Rattle.cq_index.specs.Segments.{Holds as SegmentHolds, len_of as segment_len}
 use Rattle.cq_journal.specs.declared.event.Message.{Message}
+use Rattle.cq_journal.specs.declared.lines.Line.{Line}
 use Rattle.cq_journal.specs.History.{opened_in}
 use Rattle.cq_held.specs.Held.{AreEntries, present, Spot, spots, below, Zip, IsMessageOf, HoldsIn, as_read, bytes_in, contents_of, content_of}
 use Rattle.cq_held.specs.Folder.{IsFormedAs, IsSettled}
@@ -29,8 +33,8 @@ use Rattle.cq_held.specs.Standing.{StillHolds}
 use Rattle.cq_held.proofs.Kept.{at_rest}
 use Rattle.cq_back.specs.declared.found.FoundQueue.{FoundQueue}
 use Rattle.cq_back.specs.declared.found.HeldEntry.{HeldEntry}
-use Rattle.cq_back.specs.Folder.{index_file, small_file, IsImageOrWithout, IsWithoutStray}
-use Rattle.cq_back.specs.Read.{gate_in, len_in, AreWithin, IsSmallOf}
+use Rattle.cq_back.specs.Folder.{index_file, small_file, bytes_of, IsImageOrWithout, IsWithoutStray}
+use Rattle.cq_back.specs.Read.{gate_in, len_in, messages, entries_of, AreHeld, AreWithin, IsSmallOf, IsStored}
 use Rattle.cq_back.proofs.Opening.{if_ok_with}
 
 -- each content is as it was, but that those of small stores whose index is empty may be others
@@ -98,6 +102,44 @@ without_sound old new lines step sound = record {
       (λ n. ⊎_elim (λ same. inl (ap (λ (o : Option File). content_of (bytes_in o)) same)) (λ gone. inr (gone.0.kind, ap (λ (o : Option File). content_of (bytes_in o)) gone.0.alone)) (step n)) q (lines q) (sound.held q);
   are = sound.are;
 }
+
+-- no entry stands in a file that isn't there
+none_stored : (held : List HeldEntry) → AllByRecursion (IsStored []) held → held ≡ []
+none_stored [] all = refl
+none_stored (h ∷ hs) all =
+    let same : length (entry_at [] h.at) ≡ length (entry_bytes h.entry) = ap length all.0.is.spelled in
+    absurd (omega (arith, same, length-take {A = ℕ} entry_len (drop {A = ℕ} (place_of h.at) []), length-drop {A = ℕ} (place_of h.at) []))
+
+-- the entries that were read still stand there, with their messages
+pub without_held : (old new : Name → Option File) (held : List HeldEntry) (lines : List Line) → IsWithoutStray old new → AreHeld (as_read old) held lines → AreHeld (as_read new) held lines
+without_held old new held lines step are = record {
+  places = subst (λ (o : Option File). AllByRecursion (IsStored (bytes_of (bytes_in o))) held) (sym index) are.places;
+  each = ⊎_elim
+      (λ same. zip_where (λ s. s.segment ≡ 0) (IsMessageOf (contents_of (as_read old)) 0) (IsMessageOf (contents_of (as_read new)) 0) (spots 0 (entries_of held)) (messages lines) (in_first (entries_of held)) (moved same) are.each)
+      (λ gone. nothing (none_stored held (subst (λ (o : Option File). AllByRecursion (IsStored (bytes_of (bytes_in o))) held) gone.0.alone are.places)))
+      (step small_file);
+}
+  where
+    index : new index_file ≡ old index_file
+    index = ⊎_elim (λ same. same) (λ gone. absurd (index_small gone.0.kind)) (step index_file)
+
+    moved : new small_file ≡ old small_file → (s : Spot) (m : Message) → s.segment ≡ 0 → IsMessageOf (contents_of (as_read old)) 0 s m → IsMessageOf (contents_of (as_read new)) 0 s m
+    moved same s m first is =
+        let name : small_name 0 s.segment ≡ small_file = ap (small_name 0) first in
+        let file : new (small_name 0 s.segment) ≡ old (small_name 0 s.segment) = ap new name ∙ same ∙ ap old (sym name) in
+        record { id = is.id; len = is.len; kind = is.kind; stands = subst (λ (o : Option File). StandsIn (content_of (bytes_in o)) s.entry.place m.body) (sym file) is.stands }
+
+    in_first : (es : List Entry) → AllByRecursion (λ (s : Spot). s.segment ≡ 0) (spots 0 es)
+    in_first [] = tt
+    in_first (e ∷ es) = (refl, in_first es)
+
+    no_lines : (ms : List Message) → Zip (IsMessageOf (contents_of (as_read old)) 0) [] ms → Zip (IsMessageOf (contents_of (as_read new)) 0) [] ms
+    no_lines [] z = tt
+    no_lines (m ∷ ms) z = absurd z
+
+    nothing : held ≡ [] → Zip (IsMessageOf (contents_of (as_read new)) 0) (spots 0 (entries_of held)) (messages lines)
+    nothing none = subst (λ (hs : List HeldEntry). Zip (IsMessageOf (contents_of (as_read new)) 0) (spots 0 (entries_of hs)) (messages lines)) (sym none)
+        (no_lines (messages lines) (subst (λ (hs : List HeldEntry). Zip (IsMessageOf (contents_of (as_read old)) 0) (spots 0 (entries_of hs)) (messages lines)) none are.each))
 
 -- and what they hold they still hold, whatever a crash leaves
 pub now_holds : {E : Type 0} (T One : Type 0) (result : Result FoundQueue E) (files : Name → Option File) → IfOk result (λ found. T → One → SoundBy (as_read files) (λ q. opened_in q found.lines)) → OnOk result (T → (n : Name) → IsSettled (files n))

@@ -98,9 +98,10 @@ AreMatched held lines = Zip IsLineOf held lines
 abbrev pub AreWithin : ℕ → List HeldEntry → Type 0
 AreWithin len held = AllByRecursion (λ h. h.entry.place + h.entry.len + 5 ≤ len) held
 
--- entries of the first so many places, and their lines, which are of queue 0, no id twice
+-- entries of the first so many places, at most one of each, and their lines, which are of queue 0, no id twice
 pub record AreTaken (count : ℕ) (held : List HeldEntry) (lines : List Line) : Type 0 where
   pub below : AllByRecursion (λ h. h.at < count) held
+  pub few : length held ≤ count
   pub matched : AreMatched held lines
   pub queues : AllByRecursion (λ l. l.queue ≡ 0) lines
   pub once : HasDistinctIds (messages lines)

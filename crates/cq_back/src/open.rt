@@ -38,8 +38,10 @@ pub fn open_folder<D: Disk>(alloc: Global, disk: &mut D) -> Result<FoundQueue, B
     ensures ok { IfOk result (λ found. D.tells → IsOneQueue (D.files disk.old) → SoundBy (as_read (D.files disk.old)) (λ q. opened_in q found.lines)) }
     // They still do, in whatever a crash leaves.
     ensures now { IfOk result (λ found. D.tells → IsOneQueue (D.files disk.old) → StillHolds (D.files disk.new) (λ q. opened_in q found.lines)) }
-    // Each with its entry.
+    // Each with its entry, before and now; there are at most as many as a segment has.
     ensures held { IfOk result (λ found. D.tells → AreHeld (as_read (D.files disk.old)) found.held.items found.lines) }
+    ensures held_now { IfOk result (λ found. D.tells → AreHeld (as_read (D.files disk.new)) found.held.items found.lines) }
+    ensures few_held { IfOk result (λ found. length found.held.items ≤ most_entries) }
     ensures lines { IfOk result (λ found. AreLines found.lines) }
     ensures one_queue { IfOk result (λ found. AllByRecursion (λ l. l.queue ≡ 0) found.lines) }
     ensures matched { IfOk result (λ found. AreMatched found.held.items found.lines) }
@@ -82,6 +84,7 @@ fn open_queue<D: Disk>(alloc: Global, disk: &mut D) -> Result<FoundQueue, BackEr
     ensures ok { IfOk result (λ found. D.tells → IsOneQueue (D.files disk.old) → SoundBy (as_read (D.files disk.old)) (λ q. opened_in q found.lines)) }
     ensures now { IfOk result (λ found. D.tells → IsOneQueue (D.files disk.old) → SoundBy (as_read (D.files disk.new)) (λ q. opened_in q found.lines)) }
     ensures held { IfOk result (λ found. D.tells → AreHeld (as_read (D.files disk.old)) found.held.items found.lines) }
+    ensures held_now { IfOk result (λ found. D.tells → AreHeld (as_read (D.files disk.new)) found.held.items found.lines) }
     ensures taken { IfOk result (λ found. AreTaken (count_of found.segment) found.held.items found.lines) }
     ensures within { IfOk result (λ found. AreWithin (len_in found.small) found.held.items) }
     ensures settled { OnOk result (D.tells → (n : Name) → IsSettled (D.files disk.new n)) }

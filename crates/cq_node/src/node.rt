@@ -124,9 +124,9 @@ impl<D: Disk> Node<D> {
         ensures inbox { IfErr result (λ back. back.inbox ≡ inbox) }
         ensures damaged { IfErr result (λ back. IfBroken back.error (λ name place found. D.tells → BreaksFolder (as_read (D.files disk)) name place found)) }
         ensures refuses { IfErr result (λ back. IfBroken back.error (λ name place found. D.tells → HasFew (D.files disk (index_name 0 0)) 4096 → (lines : ℕ → List Message) → SoundBy (as_read (D.files disk)) lines → ⊥)) }
-        // Without a fault a refusal comes before anything else than syncs and reads was done.
-        ensures reads { IfErr result (λ back. D.tells → (back.error ≡ open_fault → ⊥) → ReadsSame (D.files disk) (D.files back.disk)) }
-        ensures only_reads { IfErr result (λ back. D.tells → (back.error ≡ open_fault → ⊥) → LeavesOnly D.moment D.left disk back.disk (IsImage (D.files disk))) }
+        // Where a rule is broken, nothing else than syncs and reads was done.
+        ensures reads { IfErr result (λ back. IfBroken back.error (λ name place found. D.tells → ReadsSame (D.files disk) (D.files back.disk))) }
+        ensures only_reads { IfErr result (λ back. IfBroken back.error (λ name place found. D.tells → LeavesOnly D.moment D.left disk back.disk (IsImage (D.files disk)))) }
         // If whatever a crash could leave before held some messages, it holds them at every moment meanwhile, whichever the
         // answer; and no file is new.
         ensures meanwhile { (lines : ℕ → List Message) → D.tells → StillHolds (D.files disk) lines → IfOk result (λ node. LeavesOnly D.moment D.left disk node.store.disk (λ image. SoundBy image lines)) × IfErr result (λ back. LeavesOnly D.moment D.left disk back.disk (λ image. SoundBy image lines)) }
@@ -456,8 +456,8 @@ fn open_queue<D: Disk>(alloc: Global, disk: &mut D) -> Result<Opened, OpenError>
     ensures alone { D.tells → HasNoOther (D.files disk.new) }
     ensures damaged { IfErr result (λ error. IfBroken error (λ name place found. D.tells → BreaksFolder (as_read (D.files disk.old)) name place found)) }
     ensures refuses { IfErr result (λ error. IfBroken error (λ name place found. D.tells → HasFew (D.files disk.old (index_name 0 0)) 4096 → (lines : ℕ → List Message) → SoundBy (as_read (D.files disk.old)) lines → ⊥)) }
-    ensures reads { IfErr result (λ error. D.tells → (error ≡ open_fault → ⊥) → ReadsSame (D.files disk.old) (D.files disk.new)) }
-    ensures only_reads { IfErr result (λ error. D.tells → (error ≡ open_fault → ⊥) → LeavesOnly D.moment D.left disk.old disk.new (IsImage (D.files disk.old))) }
+    ensures reads { IfErr result (λ error. IfBroken error (λ name place found. D.tells → ReadsSame (D.files disk.old) (D.files disk.new))) }
+    ensures only_reads { IfErr result (λ error. IfBroken error (λ name place found. D.tells → LeavesOnly D.moment D.left disk.old disk.new (IsImage (D.files disk.old)))) }
     ensures meanwhile { D.tells → (lines : ℕ → List Message) → StillHolds (D.files disk.old) lines → LeavesOnly D.moment D.left disk.old disk.new (λ image. SoundBy image lines) }
     ensures cause { CausedOf open_fault (D.faults disk.old) (D.faults disk.new) result }
     ensures later { D.moment disk.old ≤ D.moment disk.new }

@@ -1,3 +1,4 @@
+use Rattle.std.proofs.Common.{arith}
 use Rattle.cq_disk.specs.Moments.{weaken}
 use Rattle.cq_index.specs.Segments.{count_of}
 use Rattle.cq_held.specs.Steady.{SoundBy}
@@ -42,3 +43,6 @@ returns-clause-bare_index g c = bare_segment g.D.Disk.tells c.open_queue.result 
 
 pub returns-clause-bare_small : goal.returns-clause-bare_small
 returns-clause-bare_small g c = bare_store g.D.Disk.tells c.open_queue.result (g.D.Disk.files c.open_queue.new.disk) c.open_queue.ensures.settled c.open_queue.ensures.small
+
+pub returns-clause-few_held : goal.returns-clause-few_held
+returns-clause-few_held g c = if_ok c.open_queue.result _ _ (λ found taken. let most = found.segment.few in omega (arith, taken.few, most)) c.open_queue.ensures.taken

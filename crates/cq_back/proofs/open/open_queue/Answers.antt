@@ -15,7 +15,7 @@ use Rattle.cq_back.specs.Found.{BreaksFolder}
 use Rattle.cq_back.specs.Folder.{index_file, IsWithoutStray}
 use Rattle.cq_back.proofs.Opening.{damaged_to, same_files, no_error_of}
 use Rattle.cq_back.proofs.Runs.{reads_are, one_queue, read_run, reads_run, removed_run}
-use Rattle.cq_back.proofs.Stray.{without_sound, still_named, still_within}
+use Rattle.cq_back.proofs.Stray.{without_sound, without_held, still_named, still_within}
 use Rattle.cq_back.proofs.open.open_queue.Goals as goal
 
 pub returns-in-Err-read_queue-clause-damaged : goal.returns-in-Err-read_queue-clause-damaged
@@ -60,6 +60,18 @@ returns-in-Ok-drop_stray-clause-held g c = λ told.
     let s = c.in-Ok-drop_stray.ensures.same in
     let lines = c.drop_stray.new.found.lines in
     subst (λ (image : Image). AreHeld image c.drop_stray.new.found.held.items lines) (reads_are old mid (c.in-Ok.ensures.reads told no_error_of))
+    (subst (λ (ls : List Line). AreHeld (as_read mid) c.drop_stray.new.found.held.items ls) (sym s.2)
+    (subst (λ (hs : List HeldEntry). AreHeld (as_read mid) hs c.in-Ok-read_queue.found.lines) (λ i. (sym s.1 i).items) (c.in-Ok-read_queue.ensures.held told)))
+
+pub returns-in-Ok-drop_stray-clause-held_now : goal.returns-in-Ok-drop_stray-clause-held_now
+returns-in-Ok-drop_stray-clause-held_now g c = λ told.
+    let d = g.D.Disk in
+    let mid = d.files c.sync_all.new.disk in
+    let new = d.files c.drop_stray.new.disk in
+    let s = c.in-Ok-drop_stray.ensures.same in
+    let lines = c.drop_stray.new.found.lines in
+    without_held mid new c.drop_stray.new.found.held.items lines
+    (subst (λ (fs : Name → Option File). IsWithoutStray fs new) (same_files mid (d.files c.read_queue.new.disk) (c.in-Ok-read_queue.ensures.files told)) (c.in-Ok-drop_stray.ensures.ok told))
     (subst (λ (ls : List Line). AreHeld (as_read mid) c.drop_stray.new.found.held.items ls) (sym s.2)
     (subst (λ (hs : List HeldEntry). AreHeld (as_read mid) hs c.in-Ok-read_queue.found.lines) (λ i. (sym s.1 i).items) (c.in-Ok-read_queue.ensures.held told)))
 
