@@ -1,5 +1,5 @@
 -- What the bytes that were read say of the input.
-use Rattle.std.proofs.Common.{◌≡◌, ℕ, ◌<◌, ◌≤◌, ◌+◌, cond, List, [], ◌∷◌, length, None, Some, Ok, Err, refl, ap, ◌∙◌, sym, subst, arith, inl, inr, ⊎_elim, length-append}
+use Rattle.std.proofs.Common.{◌≡◌, ℕ, ◌<◌, ◌≤◌, ◌+◌, cond, List, [], ◌∷◌, length, Result, None, Some, Ok, Err, refl, ap, ◌∙◌, sym, subst, arith, inl, inr, ⊎_elim, length-append}
 use Rattle.std.specs.Prelude.{IfSome, take}
 use Rattle.std.proofs.lemmas.Bool.{lt-ltb}
 use Rattle.std.proofs.lemmas.Bool.Decides.{leb_tells}
@@ -18,8 +18,11 @@ use Rattle.cq_replay.specs.Input.{IsJudged, GrewBy}
 use Rattle.cq_inbox.specs.declared.request.Request.{Request}
 use Rattle.cq_journal.specs.declared.session.Session.{Session}
 use Rattle.cq_script.specs.declared.script.Script.{Script}
-use Rattle.cq_replay.specs.Played.{FirstServesAll}
-use Rattle.cq_replay.specs.Outcomes.{IsOfForm, AgreesWithInput, SaysScript, ServesAllOf}
+use Rattle.cq_script.specs.declared.script.StepWord.{StepWord}
+use Rattle.cq_script.specs.declared.reading.Reading.{Reading}
+use Rattle.cq_replay.specs.Sessions.{Sessions, AreLegal}
+use Rattle.cq_replay.specs.Played.{AreSessions, ServeAll}
+use Rattle.cq_replay.specs.Outcomes.{IsOfForm, AgreesWithInput, SaysScript, AreSessionsOf, ServesAllOf}
 
 pub judged-end : (a b : Option (List ℕ)) (bytes : List ℕ) → Consumes a b bytes → IsAtEnd b → IfSome a (IsJudged bytes)
 judged-end a b bytes read end = Consumes-whole a b bytes (IsJudged bytes) read end (inl refl)
@@ -31,6 +34,12 @@ judged-long (Some x) (Some y) bytes read long = inr (long, omega (arith, ap leng
 
 pub more : (a b c : Option (List ℕ)) (old new : List ℕ) → Consumes a b old → GrewBy b c old new → Consumes a c new
 more a b c old new read grew = subst (λ bs. Consumes a c bs) (sym grew.2) (Consumes-trans a b c old grew.0 read grew.1)
+
+head : {xs ys : List (List Request)} {x y : List Request} → x ∷ xs ≡ y ∷ ys → x ≡ y
+head e = cc
+
+ok_one : {x y : Reading} → ◌≡◌ {A = Result Reading ScriptError} (Ok x) (Ok y) → x ≡ y
+ok_one e = cc
 
 -- what is longer than a script may be isn't of the form
 long-isnt : (bytes : List ℕ) → 1048576 < length bytes → IsOfForm bytes → ⊥
@@ -67,13 +76,30 @@ judged-says None bytes seen same judged script read = tt
 judged-says (Some input) bytes seen same (inl whole) script (reading, said, is) = (reading, subst (λ b. script_of b ≡ Ok reading) (same ∙ sym whole) said, is)
 judged-says (Some input) bytes seen same (inr long) script (reading, said, is) = absurd (long-isnt bytes long.0 (subst IsOfForm same (reading, said)))
 
--- a session that serves all of a script serves all that the input says
-pub serves-all : (left : Option (List ℕ)) (script : Script) (streams : List (List Request)) (sessions : List Session) → script.streams ≡ streams → FirstServesAll streams script.steps sessions → IfSome left (SaysScript script) → ServesAllOf left sessions
-serves-all left script [] [] are serves says = absurd serves
-serves-all left script [] (s ∷ sessions) are serves says = absurd serves
-serves-all left script (requests ∷ streams) [] are serves says = absurd serves
-serves-all None script (requests ∷ streams) (s ∷ sessions) are serves says = (requests, script.steps, serves, tt)
-serves-all (Some input) script (requests ∷ streams) (s ∷ sessions) are serves (reading, said, is) = (requests, script.steps, serves, (reading, said, (let both : reading.requests ∷ [] ≡ requests ∷ streams = sym is.streams_is ∙ are in head both), sym is.steps_is))
-  where
-    head : {xs ys : List (List Request)} {x y : List Request} → x ∷ xs ≡ y ∷ ys → x ≡ y
-    head e = cc
+-- the sessions of a script are those of what the input says
+pub sessions-of : (left : Option (List ℕ)) (script : Script) (streams : List (List Request)) (sessions : List Session) → script.streams ≡ streams → AreSessions streams script.steps sessions → IfSome left (SaysScript script) → IfSome left (AreSessionsOf sessions)
+sessions-of None script streams sessions same are says = tt
+sessions-of (Some input) script [] sessions same are says = absurd are
+sessions-of (Some input) script (requests ∷ r ∷ streams) sessions same are says = absurd are
+sessions-of (Some input) script (requests ∷ []) sessions same are (reading, said, is) = λ asked words (other, says, asked_is, words_are).
+    let one : other ≡ reading = ok_one (sym says ∙ said) in
+    let requests_are : requests ≡ asked = head (sym same ∙ is.streams_is) ∙ ap (λ (r : Reading). r.requests) (sym one) ∙ asked_is in
+    let steps_are : script.steps ≡ words = is.steps_is ∙ ap (λ (r : Reading). r.steps) (sym one) ∙ words_are in
+    subst (λ rs. Sessions rs words sessions) requests_are (subst (λ ws. Sessions requests ws sessions) steps_are are)
+
+-- no sessions are those of any input
+pub sessions-none : (left : Option (List ℕ)) (sessions : List Session) → sessions ≡ [] → IfSome left (AreSessionsOf sessions)
+sessions-none None sessions none = tt
+sessions-none (Some input) sessions none = λ requests words says. subst (λ ss. Sessions requests words ss) (sym none) (record { legal = tt; begins = tt; plays = tt })
+
+pub sessions-legal : (streams : List (List Request)) (words : List StepWord) (sessions : List Session) → AreSessions streams words sessions → AreLegal sessions
+sessions-legal [] words sessions are = absurd are
+sessions-legal (requests ∷ []) words sessions are = are.legal
+sessions-legal (requests ∷ r ∷ streams) words sessions are = absurd are
+
+-- sessions that serve all of a script serve all that the input says
+pub serves-all : (left : Option (List ℕ)) (script : Script) (streams : List (List Request)) (sessions : List Session) → script.streams ≡ streams → ServeAll streams script.steps sessions → IfSome left (SaysScript script) → ServesAllOf left sessions
+serves-all left script [] sessions same serve says = absurd serve
+serves-all left script (requests ∷ r ∷ streams) sessions same serve says = absurd serve
+serves-all None script (requests ∷ []) sessions same serve says = (requests, script.steps, serve, tt)
+serves-all (Some input) script (requests ∷ []) sessions same serve (reading, said, is) = (requests, script.steps, serve, (reading, said, head (sym is.streams_is ∙ same), sym is.steps_is))

@@ -1,7 +1,8 @@
 -- How the entries and the client's requests move on.
-use Rattle.std.proofs.Common.{◌≡◌, ℕ, ◌+◌, ◌≤◌, List, [], ◌∷◌, ◌++◌, length, Result, Ok, Err, OnOk, refl, sym, ap, ◌∙◌, arith, append_assoc, length-append, Bool, true, false, cond, Option}
-use Rattle.std.specs.Prelude.{◌==◌, map}
+use Rattle.std.proofs.Common.{◌≡◌, ℕ, ◌+◌, ◌<◌, ◌≤◌, List, [], ◌∷◌, ◌++◌, length, Result, Ok, Err, OnOk, refl, sym, ap, ◌∙◌, arith, append_assoc, length-append, Bool, true, false, cond, Option}
+use Rattle.std.specs.Prelude.{◌==◌, map, is_err}
 use Rattle.std.specs.List.{AllByRecursion}
+use Rattle.std.proofs.lemmas.Bool.{false≢true}
 use Rattle.std.proofs.lemmas.List.{length-map}
 use Rattle.cq_journal.specs.declared.event.Event.{Event}
 use Rattle.cq_journal.specs.declared.event.Event.TheVariants as event
@@ -10,6 +11,8 @@ use Rattle.cq_core.specs.Answers.{bodiless}
 use Rattle.cq_inbox.specs.declared.request.Request.{Request}
 use Rattle.cq_journal.specs.declared.event.Entry.{Entry}
 use Rattle.cq_journal.specs.Asks.{ask, asks, own, reply_of, replies}
+use Rattle.cq_journal.specs.Legal.{newest}
+use Rattle.cq_node.specs.Opening.{IsOpening}
 use Rattle.cq_node.specs.declared.outcome.NodeError.{NodeError}
 use Rattle.cq_node.specs.declared.outcome.Step.{Step}
 use Rattle.cq_node.specs.declared.outcome.Step.TheVariants.{Did, Idle}
@@ -75,6 +78,10 @@ pub then_handed : (m m' m'' : ℕ) (a b c d : List Entry) (u v w x : Handed) (p 
 then_handed m m' m'' a b c d u v w x p q r s le at first same moved second =
     then m m' le a b d u v x p q s first (then m' m'' (omega (arith, at)) b c d v w x q r s (stays m' b c v w q r same moved) second)
 
+-- the same once a fuse was set, which moves nothing
+pub fused : (m m' : ℕ) (a b c : List Entry) (u v w : Handed) (p q : List Request) → m' ≡ m → b ≡ a → v ≡ u → MovesOn m' b c v w p q → MovesOn m a c u w p q
+fused m m' a b c u v w p q at same waits moves = then m m' (omega (arith, at)) a b c u v w p p q (stays m a b u v p p same (ap (λ (h : Handed). h.requests ++ p) waits)) moves
+
 -- how many requests there are
 pub length-demand : (journal : List Entry) (w : Handed) (rest : List Request) → length (demand journal w rest) ≡ length (asks journal 0) + length w.requests + length rest
 length-demand journal w rest = length-append (asks journal 0 ++ w.requests) rest ∙ ap (λ n. n + length rest) (length-append (asks journal 0) w.requests)
@@ -120,11 +127,49 @@ pub ok_too : {T E P : Type 0} (result : Result T E) → P → OnOk result P
 ok_too (Ok v) p = p
 ok_too (Err e) p = tt
 
+-- an opening is one entry, which asks nothing
+pub opening_one : (m : ℕ) (journal : List Entry) → IsOpening m journal → length journal ≡ 1
+opening_one m [] is = absurd is
+opening_one m (e ∷ []) is = refl
+opening_one m (e ∷ f ∷ past) is = absurd is
+
+pub opening_newest : (m : ℕ) (journal : List Entry) → IsOpening m journal → newest journal ≡ m
+opening_newest m [] is = absurd is
+opening_newest m (e ∷ []) is = is.0
+opening_newest m (e ∷ f ∷ past) is = absurd is
+
+pub opening_asks : (m : ℕ) (journal : List Entry) → IsOpening m journal → asks journal 0 ≡ []
+opening_asks m [] is = absurd is
+opening_asks m (e ∷ []) is = one e.event is
+  where
+    one : (event : Event) → IsOpening m (record { event = event; stamp = e.stamp } ∷ []) → ask 0 event ≡ []
+    one (event.Opened lines) is = refl
+    one (event.Published client number id queues body) is = absurd is.1
+    one (event.Delivered client number queue id) is = absurd is.1
+    one (event.Empty client queue) is = absurd is.1
+    one (event.Busy client queue) is = absurd is.1
+    one (event.Acked client number) is = absurd is.1
+    one (event.Unknown client number) is = absurd is.1
+    one (event.Dropped client number) is = absurd is.1
+    one (event.Ended client) is = absurd is.1
+    one (event.Confirmed client number id) is = absurd is.1
+    one (event.Settled queue id) is = absurd is.1
+opening_asks m (e ∷ f ∷ past) is = absurd is
+
+-- a journal that goes on from an opening has some entry
+pub begun : (m : ℕ) (old now added : List Entry) → IsOpening m old → now ≡ added ++ old → 0 < length now
+begun m old now added opened grown = omega (arith, ap length grown, length-append added old, opening_one m old opened)
+
 -- what a session that has only begun has to serve
 pub demand_fresh : (m : ℕ) (journal : List Entry) (w : Handed) (after : List After) (rest : List Request) → IsFresh m journal w after → demand journal w rest ≡ rest
-demand_fresh m journal w after rest fresh = ap (λ l. asks l 0 ++ w.requests ++ rest) fresh.opened ∙ ap (λ (v : Handed). v.requests ++ rest) fresh.none_waits
+demand_fresh m journal w after rest fresh = ap (λ l. l ++ w.requests ++ rest) (opening_asks m journal fresh.opened) ∙ ap (λ (v : Handed). v.requests ++ rest) fresh.none_waits
 
 -- what holds of an answer that is Ok
 pub at_ok : {T E P : Type 0} {v : T} (result : Result T E) → result ≡ Ok v → OnOk result P → P
 at_ok (Ok v) is has = has
 at_ok (Err e) is has = cc
+
+-- what holds of an answer that is no error
+pub no_error : {T E P : Type 0} (result : Result T E) → is_err result ≡ false → OnOk result P → P
+no_error (Ok v) none has = has
+no_error (Err e) none has = absurd (false≢true (sym none))

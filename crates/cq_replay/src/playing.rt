@@ -1,29 +1,39 @@
-// A script that is served in one session.
-ghost use Rattle.std.specs.Prelude.{◌≡◌, ◌≢◌, ◌≤◌, ◌++◌, ◌∷◌, [], ℕ, None, IfOk, IfErr, OnOk, IsErrOf, length, true, false};
+// A script that is served in sessions, one after another.
+ghost use Rattle.std.specs.Prelude.{◌≡◌, ◌≢◌, ◌≤◌, ◌<◌, ◌+◌, ◌++◌, ◌∷◌, [], ℕ, List, Option, Ok, None, IfOk, IfErr, IfSome, IsSome, OnOk, IsErrOf, true, false, length, vec_len, vec_capacity};
 ghost use Rattle.std.specs.List.{list_all};
 ghost use Rattle.cq_disk.specs.declared.name.Name.{Name};
 ghost use Rattle.cq_disk.specs.Rose.{Rose};
-ghost use Rattle.cq_disk.specs.Files.{IsImage};
-ghost use Rattle.cq_disk.specs.Call.{Image, CausedOf, StruckByOf, KeepsPlan};
+ghost use Rattle.cq_disk.specs.Files.{IsImage, NamesAre, SameFiles};
+ghost use Rattle.cq_disk.specs.Call.{Image, CausedOf};
+ghost use Rattle.cq_held.specs.Held.{as_read, Held};
+ghost use Rattle.cq_held.specs.Steady.{Agrees, Sound};
+ghost use Rattle.cq_inbox.specs.declared.request.Request.{Request};
 ghost use Rattle.cq_inbox.specs.Requests.{publishes};
+ghost use Rattle.cq_index.specs.Places.{index_name};
 ghost use Rattle.cq_io.specs.Streams.{Adds};
+ghost use Rattle.cq_journal.specs.declared.event.Entry.{Entry};
+ghost use Rattle.cq_journal.specs.History.{line};
 ghost use Rattle.cq_journal.specs.Legal.{Legal};
-ghost use Rattle.cq_node.specs.declared.outcome.NodeError.TheVariants.{Fault as node_fault};
+ghost use Rattle.cq_memdisk.specs.Crash.{Crashed};
+ghost use Rattle.cq_node.specs.Files.{HasFew, HasNoOther};
+ghost use Rattle.cq_node.specs.Opening.{IfBroken};
 ghost use Rattle.cq_node.specs.Waiting.{is_servable};
 ghost use Rattle.cq_print.specs.Text.{text_of};
-ghost use Rattle.cq_script.specs.Scripts.{KeepsLimits};
-ghost use Rattle.cq_held.specs.Held.{as_read, Held};
-ghost use Rattle.cq_held.specs.Steady.{Agrees, Steady};
-ghost use Rattle.cq_journal.specs.History.{line};
-ghost use Rattle.cq_replay.specs.Played.{AreLegal, FirstText, IsRight, Ended, IfFailed, Serves, ServesAll, AreServing, FirstServesAll, FirstHeld, AreSteady, LastAgrees};
+ghost use Rattle.cq_script.specs.declared.script.StepWord.{StepWord};
+ghost use Rattle.cq_script.specs.Scripts.{KeepsLimits, is_crash, crashes};
+ghost use Rattle.cq_replay.specs.Between.{image_in, IsSplit, IsReady, IsUpTo, TakesOn, HasPlayed, TakesToEnd, TakesTexts};
 ghost use Rattle.cq_replay.specs.Running.{IsFresh};
+ghost use Rattle.cq_replay.specs.Sessions.{AllTexts, texts_of};
+ghost use Rattle.cq_replay.specs.Played.{AreSessions, ServeAll, IsRight, Ended, IfFailed, InSession, LastHeld, LastSteady, LastAgrees};
 
 use crate::player::Player;
-use cq_disk::Disk;
+use crate::session::{Finished, serve_session};
+use cq_disk::OpenError;
 use cq_inbox::{Config, PlainInbox, Request};
 use cq_io::Sink;
 use cq_journal::Session;
-use cq_node::{Node, NodeError, Released};
+use cq_memdisk::Crashable;
+use cq_node::{Node, NodeError, OpenRefused, Waiting};
 use cq_print::{PutError, put_session};
 use cq_script::{Script, StepWord, Streams};
 use std::alloc::{AllocError, Global};
@@ -34,6 +44,8 @@ use std::collections::VecDeque;
 pub enum Ending {
     /// All was served.
     Served,
+    /// An opening failed: a fault of the disk.
+    Opening(OpenError),
     /// A step of the node failed: a fault of the disk.
     Failed(NodeError),
     /// The sink failed.
@@ -44,31 +56,40 @@ pub enum Ending {
 
 /// How the serving of a script ended, the sessions that were served, in order, and the scratch disk.
 #[derive(Drop)]
-pub struct Played<C: Disk> {
+pub struct Played<C: Crashable> {
     pub ending: Ending,
     pub sessions: Vec<Session>,
     pub scratch: C,
 }
 
-/// Serves a script on a scratch disk that has no files, by its schedule and then to its end, and puts the text of its
-/// session.
-pub fn play<C: Disk, W: Sink>(alloc: Global, script: Script, scratch: C, sink: &mut W) -> Played<C>
+/// Serves a script on a scratch disk that has no files and no fuse, by its schedule and then to its end. A crash of the schedule
+/// ends a session: the disk becomes the image that it names, the folder is opened again, and the client goes on from its first
+/// request without an entry. The text of each session is put when it ends, unless memory ran out in it.
+pub fn play<C: Crashable, W: Sink>(
+    alloc: Global,
+    script: Script,
+    scratch: C,
+    sink: &mut W,
+) -> Played<C>
     requires limits { KeepsLimits script }
-    requires no_files { C.tells → (n : Name) → C.files scratch n ≡ None }
-    // Whatever the ending, what the session did was allowed.
-    ensures legal { AreLegal result.sessions.items }
-    ensures text { result.ending ≡ Ending.Served → FirstText (W.pieces sink.old) (W.pieces sink.new) result.sessions.items }
-    // The requests are answered in their order and the words done in theirs: all of them where all was served. Then each
-    // publish is confirmed, and the files hold exactly the messages that were published.
-    ensures serves { AreServing script.streams script.steps result.sessions.items }
-    ensures served { result.ending ≡ Ending.Served → FirstServesAll script.streams script.steps result.sessions.items }
-    ensures held { result.ending ≡ Ending.Served → C.tells → FirstHeld (C.files result.scratch) result.sessions.items }
-    // A crash at any moment has left, and leaves now, what agrees with the journal, whatever the ending.
-    ensures steady { C.tells → AreSteady (C.left result.scratch) (C.moment result.scratch) result.sessions.items }
-    ensures agrees { C.tells → (image : Image) → IsImage (C.files result.scratch) image → LastAgrees image result.sessions.items }
+    requires no_files { (n : Name) → C.files scratch n ≡ None }
+    requires no_fuse { C.fuse scratch ≡ None }
+    // Whatever the ending, the sessions are those of the script: what each did was allowed, the requests are answered in their
+    // order and the words done in theirs, each session but the last was ended by a crash, and what the next opening found
+    // survives its journal.
+    ensures sessions { AreSessions script.streams script.steps result.sessions.items }
+    // Where all was served, all requests and words are. Then the last session's publishes are confirmed, the files hold exactly
+    // its messages, and the sink took the lines of all texts.
+    ensures served { result.ending ≡ Ending.Served → ServeAll script.streams script.steps result.sessions.items }
+    ensures held { result.ending ≡ Ending.Served → LastHeld (C.files result.scratch) result.sessions.items }
+    ensures texts { result.ending ≡ Ending.Served → AllTexts (W.pieces sink.old) (W.pieces sink.new) result.sessions.items }
+    // A crash at any moment of the last session has left what agrees with its journal; and whatever the ending, a crash leaves
+    // that now.
+    ensures steady { InSession result.ending → LastSteady (C.left result.scratch) (C.moment result.scratch) result.sessions.items }
+    ensures agrees { (image : Image) → IsImage (C.files result.scratch) image → LastAgrees image result.sessions.items }
     // A fault is answered only where one came.
     ensures later { C.faults scratch ≤ C.faults result.scratch }
-    ensures failed { Ended result.ending (C.faults scratch) (C.faults result.scratch) (C.fuse scratch) (C.moment result.scratch) (C.struck scratch) (C.struck result.scratch) }
+    ensures failed { Ended result.ending (C.faults scratch) (C.faults result.scratch) (C.struck scratch) (C.struck result.scratch) }
     ensures output { result.ending ≡ Ending.Output → Rose (W.faults sink.old) (W.faults sink.new) }
     ensures sink_later { W.faults sink.old ≤ W.faults sink.new }
 {
@@ -78,58 +99,45 @@ pub fn play<C: Disk, W: Sink>(alloc: Global, script: Script, scratch: C, sink: &
         steps,
         scheduled: _,
     } = script;
+    let words = steps.words();
     let mut sessions = Vec::new(alloc);
-    if sessions.reserve(1).is_err() {
+    if sessions.reserve(crashes_of(words) + 1).is_err() {
         return Played {
             ending: Ending::Memory,
             sessions,
             scratch,
         };
     }
-    match open(alloc, config, streams, scratch) {
-        Err(scratch) => Played {
-            ending: Ending::Memory,
-            sessions,
-            scratch,
-        },
-        Ok(player) => {
-            let (ending, session, scratch) = serve(alloc, player, steps.words(), sink);
-            sessions.push_reserved(session);
-            Played {
-                ending,
-                sessions,
-                scratch,
-            }
-        }
-    }
+    let pause = Pause {
+        words,
+        rest: first_stream(alloc, streams),
+        scratch,
+    };
+    play_on(alloc, config, pause, sessions, sink)
 }
 
-/// Opens a node for the requests of the one client. Where memory runs out the scratch disk is handed back.
-fn open<C: Disk>(
-    alloc: Global,
-    config: Config,
-    streams: Streams,
+/// Where a script stands while no session is open: the words of the schedule that are left, the client's requests that have no
+/// entry, in order, and the scratch disk.
+#[derive(Drop)]
+struct Pause<'a, C: Crashable> {
+    words: &'a [StepWord],
+    rest: VecDeque<Request>,
     scratch: C,
-) -> Result<Player<C>, C>
-    requires one_client { config.clients ≡ 1 }
-    requires streams { IsRight streams }
-    requires no_files { C.tells → (n : Name) → C.files scratch n ≡ None }
-    ensures disk { IfOk result (λ player. (player.node.store.disk ≡ scratch) × (player.node.store.halted ≡ false)) }
-    ensures fresh { IfOk result (λ player. IsFresh (C.moment scratch) player.node.core.entries player.node.waiting player.after.items) }
-    ensures rest { IfOk result (λ player. streams ≡ player.rest.items ∷ []) }
-    ensures refused { IfErr result (λ back. back ≡ scratch) }
-{
-    let Ok(inbox) = PlainInbox::new(alloc, 1) else {
-        return Err(scratch);
-    };
-    match Node::open(alloc, scratch, config, inbox) {
-        Ok(node) => Ok(Player {
-            node,
-            rest: first_stream(alloc, streams),
-            after: Vec::new(alloc),
-        }),
-        Err(refused) => Err(refused.disk),
-    }
+}
+
+/// How the serving ended, and the scratch disk.
+#[derive(Drop)]
+struct Over<C: Crashable> {
+    ending: Ending,
+    scratch: C,
+}
+
+/// The words of a session, the crash that ends it, where one does, and the words behind it.
+#[derive(Clone, Copy)]
+struct Part<'a> {
+    plain: &'a [StepWord],
+    end: Option<StepWord>,
+    later: &'a [StepWord],
 }
 
 /// The requests of the one client.
@@ -145,67 +153,312 @@ fn first_stream(alloc: Global, streams: Streams) -> VecDeque<Request>
     }
 }
 
-/// Serves the words of a schedule and then all that is left, and puts the text of the session.
-fn serve<C: Disk, W: Sink>(
+/// Whether a word ends its session.
+fn ends_session(word: &StepWord) -> bool
+    ensures { result ≡ is_crash word.now }
+{
+    matches!(word, StepWord::Crash { .. } | StepWord::Stop { .. })
+}
+
+/// How many of the words end a session.
+fn crashes_of(words: &[StepWord]) -> usize
+    ensures { result ≡ crashes words.now }
+{
+    words.iter().filter(|word| ends_session(word)).count()
+}
+
+/// Splits the words of a schedule at the first crash.
+fn split(words: &[StepWord]) -> Part<'_>
+    ensures { IsSplit words.now result.plain.now result.end result.later.now }
+{
+    for (place, word) in words.iter().enumerate() {
+        if ends_session(word) {
+            return Part {
+                plain: &words[..place],
+                end: Some(*word),
+                later: &words[place + 1..],
+            };
+        }
+    }
+    Part {
+        plain: words,
+        end: None,
+        later: &[],
+    }
+}
+
+/// Serves the sessions of a script, the first of them in an empty folder.
+fn play_on<C: Crashable, W: Sink>(
     alloc: Global,
-    mut player: Player<C>,
-    words: &[StepWord],
+    config: Config,
+    mut pause: Pause<'_, C>,
+    mut sessions: Vec<Session>,
     sink: &mut W,
-) -> (Ending, Session, C)
-    requires open { player.node.store.halted ≡ false }
-    requires fresh { IsFresh (C.moment player.node.store.disk) player.node.core.entries player.node.waiting player.after.items }
-    ensures legal { Legal result.1.journal.entries }
-    ensures serves { Serves player.rest.items words.now result.1 }
-    ensures all { result.0 ≡ Ending.Served → ServesAll player.rest.items words.now result.1 }
-    ensures held { result.0 ≡ Ending.Served → C.tells → Held (as_read (C.files result.2)) (line result.1.journal.entries) }
-    ensures text { result.0 ≡ Ending.Served → Adds (W.pieces sink.old) (W.pieces sink.new) (text_of 0 result.1.journal.entries []) }
-    ensures cut { result.1.cut.items ≡ [] }
-    ensures steady { C.tells → Steady (C.left result.2) (C.moment result.2) result.1.journal.entries }
-    ensures agrees { C.tells → (image : Image) → IsImage (C.files result.2) image → Agrees image result.1.journal.entries }
-    ensures later { C.faults player.node.store.disk ≤ C.faults result.2 }
-    ensures failed { Ended result.0 (C.faults player.node.store.disk) (C.faults result.2) (C.fuse player.node.store.disk) (C.moment result.2) (C.struck player.node.store.disk) (C.struck result.2) }
-    ensures output { result.0 ≡ Ending.Output → Rose (W.faults sink.old) (W.faults sink.new) }
+) -> Played<C>
+    requires one_client { config.clients ≡ 1 }
+    requires none { sessions.items ≡ [] }
+    requires room { crashes pause.words.now < vec_capacity sessions }
+    requires few { crashes pause.words.now ≤ 1000 }
+    requires empty { (n : Name) → C.files pause.scratch n ≡ None }
+    requires ready { IsReady (C.files pause.scratch) (C.fuse pause.scratch) pause.rest.items }
+    ensures played { HasPlayed pause.entry.rest.items pause.entry.words.now result.ending result.sessions.items (C.files result.scratch) (C.left result.scratch) (C.moment result.scratch) }
+    ensures texts { result.ending ≡ Ending.Served → AllTexts (W.pieces sink.old) (W.pieces sink.new) result.sessions.items }
+    ensures later { C.faults pause.entry.scratch ≤ C.faults result.scratch }
+    ensures failed { Ended result.ending (C.faults pause.entry.scratch) (C.faults result.scratch) (C.struck pause.entry.scratch) (C.struck result.scratch) }
+    ensures output { result.ending ≡ Ending.Output → Rose (W.faults sink.old) (W.faults sink.new) }
     ensures sink_later { W.faults sink.old ≤ W.faults sink.new }
 {
-    let served = player.serve(words);
-    let Player {
-        node,
-        rest: _,
-        after,
-    } = player;
-    let Released { disk, journal } = node.release();
-    let session = Session {
-        journal,
-        cut: Vec::new(alloc),
-        after,
+    loop {
+        match next_session(alloc, config, pause, &mut sessions, sink) {
+            Ok(next) => pause = next,
+            Err(over) => {
+                return Played {
+                    ending: over.ending,
+                    sessions,
+                    scratch: over.scratch,
+                };
+            }
+        }
+    }
+}
+
+/// Serves one session, and answers where the script stands then, if a crash ended it and another one follows.
+fn next_session<'a, C: Crashable, W: Sink>(
+    alloc: Global,
+    config: Config,
+    pause: Pause<'a, C>,
+    sessions: &mut Vec<Session>,
+    sink: &mut W,
+) -> Result<Pause<'a, C>, Over<C>>
+    requires one_client { config.clients ≡ 1 }
+    requires room { length sessions.old.items + crashes pause.words.now < vec_capacity sessions.old }
+    requires few { length sessions.old.items + crashes pause.words.now ≤ 1000 }
+    requires ready { IsReady (C.files pause.scratch) (C.fuse pause.scratch) pause.rest.items }
+    ensures ready { IfOk result (λ next. IsReady (C.files next.scratch) (C.fuse next.scratch) next.rest.items) }
+    ensures takes_on { IfOk result (λ next. TakesOn sessions.old.items pause.entry.rest.items pause.entry.words.now (C.files pause.entry.scratch) sessions.new.items next.rest.items next.words.now (C.files next.scratch)) }
+    ensures takes_to_end { IfErr result (λ over. TakesToEnd sessions.old.items pause.entry.rest.items pause.entry.words.now (C.files pause.entry.scratch) over.ending sessions.new.items (C.files over.scratch) (C.left over.scratch) (C.moment over.scratch)) }
+    // There is one session more, and at least one crash less.
+    ensures one_more { IfOk result (λ next. (length sessions.new.items ≡ length sessions.old.items + 1) × (crashes next.words.now + 1 ≤ crashes pause.entry.words.now)) }
+    ensures capacity { vec_capacity sessions.new ≡ vec_capacity sessions.old }
+    ensures texts { IfOk result (λ next. TakesTexts (W.pieces sink.old) sessions.old.items (W.pieces sink.new) sessions.new.items) }
+    ensures last_text { IfErr result (λ over. over.ending ≡ Ending.Served → TakesTexts (W.pieces sink.old) sessions.old.items (W.pieces sink.new) sessions.new.items) }
+    ensures later { IfOk result (λ next. (C.faults pause.entry.scratch ≤ C.faults next.scratch) × (C.struck pause.entry.scratch ≤ C.struck next.scratch)) }
+    ensures last_later { IfErr result (λ over. C.faults pause.entry.scratch ≤ C.faults over.scratch) }
+    ensures failed { IfErr result (λ over. Ended over.ending (C.faults pause.entry.scratch) (C.faults over.scratch) (C.struck pause.entry.scratch) (C.struck over.scratch)) }
+    ensures output { IfErr result (λ over. over.ending ≡ Ending.Output → Rose (W.faults sink.old) (W.faults sink.new)) }
+    ensures sink_later { W.faults sink.old ≤ W.faults sink.new }
+{
+    let Pause {
+        words,
+        rest,
+        scratch,
+    } = pause;
+    let part = split(words);
+    let number = sessions.len() as u32;
+    let player = match open(alloc, config, number, rest, scratch) {
+        Ok(player) => player,
+        Err(over) => return Err(over),
     };
-    let ending = put_text(alloc, &session, served, sink);
-    (ending, session, disk)
+    let Finished {
+        session,
+        waiting,
+        rest,
+        disk,
+        served,
+    } = serve_session(alloc, player, part.plain, part.end);
+    let ending = put_text(alloc, u64::from(number), &session, served, sink);
+    sessions.push_reserved(session);
+    match ending {
+        Ending::Served => match part.end {
+            Some(crash) => restart(waiting, rest, disk, crash, part.later),
+            None => Err(Over {
+                ending,
+                scratch: disk,
+            }),
+        },
+        _ => Err(Over {
+            ending,
+            scratch: disk,
+        }),
+    }
+}
+
+/// Opens the folder as the session of this number, for the requests that are left.
+fn open<C: Crashable>(
+    alloc: Global,
+    config: Config,
+    number: u32,
+    rest: VecDeque<Request>,
+    scratch: C,
+) -> Result<Player<C>, Over<C>>
+    requires one_client { config.clients ≡ 1 }
+    requires ready { IsReady (C.files scratch) (C.fuse scratch) rest.items }
+    ensures running { IfOk result (λ player. (player.node.store.halted ≡ false) × (C.fuse player.node.store.disk ≡ None)) }
+    ensures fresh { IfOk result (λ player. IsFresh (C.moment player.node.store.disk) player.node.core.entries player.node.waiting player.after.items) }
+    ensures rest { IfOk result (λ player. player.rest.items ≡ rest.items) }
+    ensures found { IfOk result (λ player. Held (as_read (C.files scratch)) (line player.node.core.entries)) }
+    ensures later { IfOk result (λ player. (C.faults scratch ≤ C.faults player.node.store.disk) × (C.struck scratch ≤ C.struck player.node.store.disk)) }
+    // Where it failed, a crash leaves what agrees with the journals that the folder agreed with.
+    ensures between { IfErr result (λ over. InSession over.ending → ⊥) }
+    ensures agrees { IfErr result (λ over. (past : List Entry) → Agrees (as_read (C.files scratch)) past → (image : Image) → IsImage (C.files over.scratch) image → Agrees image past) }
+    ensures last_later { IfErr result (λ over. C.faults scratch ≤ C.faults over.scratch) }
+    ensures failed { IfErr result (λ over. Ended over.ending (C.faults scratch) (C.faults over.scratch) (C.struck scratch) (C.struck over.scratch)) }
+{
+    let Ok(inbox) = PlainInbox::new(alloc, 1) else {
+        return Err(Over {
+            ending: Ending::Memory,
+            scratch,
+        });
+    };
+    match Node::open(alloc, scratch, numbered(config, number), inbox) {
+        Ok(node) => Ok(Player {
+            node,
+            rest,
+            after: Vec::new(alloc),
+        }),
+        Err(
+            OpenRefused {
+                error,
+                disk,
+                inbox: _,
+            },
+        ) => Err(Over {
+            ending: unopened(error),
+            scratch: disk,
+        }),
+    }
+}
+
+/// The numbers of the node in the session of this number.
+fn numbered(config: Config, number: u32) -> Config
+    ensures clients { result.clients ≡ config.clients }
+    ensures session { result.session ≡ number }
+{
+    let Some(config) = Config::new(
+        config.clients(),
+        config.segment(),
+        config.threshold(),
+        config.limit(),
+        number,
+    ) else {
+        unreachable!();
+    };
+    config
+}
+
+/// The ending where a folder that isn't broken can't be opened.
+fn unopened(error: OpenError) -> Ending
+    requires { IfBroken error (λ name place found. ⊥) }
+    ensures fault { error ≡ OpenError.Fault → result ≡ Ending.Opening OpenError.Fault }
+    ensures memory { error ≡ OpenError.Memory → result ≡ Ending.Memory }
+{
+    match error {
+        OpenError::Fault => Ending::Opening(OpenError::Fault),
+        OpenError::Memory => Ending::Memory,
+        OpenError::Damaged(_, _, _) => unreachable!(),
+    }
 }
 
 /// Puts the text of a session, unless memory ran out in it, and answers how it ended.
 fn put_text<W: Sink>(
     alloc: Global,
+    number: u64,
     session: &Session,
     served: Result<(), NodeError>,
     sink: &mut W,
 ) -> Ending
     requires { Legal session.now.journal.entries }
     ensures served { result ≡ Ending.Served → served ≡ Ok tt }
-    ensures text { result ≡ Ending.Served → Adds (W.pieces sink.old) (W.pieces sink.new) (text_of 0 session.now.journal.entries session.now.cut.items) }
+    ensures text { result ≡ Ending.Served → Adds (W.pieces sink.old) (W.pieces sink.new) (text_of number session.now.journal.entries session.now.cut.items) }
     ensures failed { IfFailed result (λ error. (served ≡ Err error) × (error ≢ NodeError.Memory)) }
+    ensures opened { (error : OpenError) → result ≡ Ending.Opening error → ⊥ }
     ensures output { result ≡ Ending.Output → Rose (W.faults sink.old) (W.faults sink.new) }
     ensures sink_later { W.faults sink.old ≤ W.faults sink.new }
 {
     if let Err(NodeError::Memory) = served {
         return Ending::Memory;
     }
-    match put_session(alloc, 0, session, sink) {
+    match put_session(alloc, number, session, sink) {
         Ok(()) => match served {
             Ok(()) => Ending::Served,
             Err(error) => Ending::Failed(error),
         },
         Err(PutError::Output) => Ending::Output,
         Err(PutError::Memory) => Ending::Memory,
+    }
+}
+
+/// Makes the disk crash, and puts the requests without an entry before the others. Where memory runs out the files are as
+/// they were.
+fn restart<'a, C: Crashable>(
+    mut waiting: Waiting,
+    mut rest: VecDeque<Request>,
+    mut disk: C,
+    crash: StepWord,
+    later: &'a [StepWord],
+) -> Result<Pause<'a, C>, Over<C>>
+    requires crash { is_crash crash ≡ true }
+    requires servable { list_all is_servable (waiting.requests ++ rest.items) ≡ true }
+    requires few { (count : ℕ) × HasFew (C.files disk (index_name 0 0)) count × (count + publishes (waiting.requests ++ rest.items) ≤ 4096) }
+    requires alone { HasNoOther (C.files disk) }
+    requires sound { (image : Image) → IsImage (C.files disk) image → Sound image }
+    ensures words { IfOk result (λ next. next.words.now ≡ later.now) }
+    ensures rest { IfOk result (λ next. next.rest.items ≡ waiting.requests ++ rest.items) }
+    ensures crashed { IfOk result (λ next. (names : List Name) × NamesAre (C.files disk) names × Crashed (image_in crash) names (C.files disk) (C.files next.scratch)) }
+    ensures ready { IfOk result (λ next. IsReady (C.files next.scratch) (C.fuse next.scratch) next.rest.items) }
+    ensures left { IfOk result (λ next. IsImage (C.files disk) (as_read (C.files next.scratch))) }
+    ensures counts { IfOk result (λ next. (C.faults next.scratch ≡ C.faults disk) × (C.struck next.scratch ≡ C.struck disk)) }
+    ensures ending { IfErr result (λ over. over.ending ≡ Ending.Memory) }
+    ensures same_files { IfErr result (λ over. SameFiles (C.files disk) (C.files over.scratch)) }
+    ensures last_counts { IfErr result (λ over. (C.faults over.scratch ≡ C.faults disk) × (C.struck over.scratch ≡ C.struck disk)) }
+{
+    let image = image_of(crash);
+    let back = put_back(&mut waiting, &mut rest);
+    if back.is_err() {
+        return Err(Over {
+            ending: Ending::Memory,
+            scratch: disk,
+        });
+    }
+    match disk.crash(image) {
+        Ok(()) => Ok(Pause {
+            words: later,
+            rest,
+            scratch: disk,
+        }),
+        Err(_) => Err(Over {
+            ending: Ending::Memory,
+            scratch: disk,
+        }),
+    }
+}
+
+/// The image that a crash leaves.
+fn image_of(crash: StepWord) -> u64
+    requires { is_crash crash ≡ true }
+    ensures { result ≡ image_in crash }
+{
+    match crash {
+        StepWord::Crash { image } => image,
+        StepWord::Stop {
+            image,
+            calls: _,
+            step: _,
+        } => image,
+        StepWord::Client(_) | StepWord::Turn(_) | StepWord::Write => unreachable!(),
+    }
+}
+
+/// Puts the requests that wait, of which there are at most 65, before the others.
+fn put_back(waiting: &mut Waiting, rest: &mut VecDeque<Request>) -> Result<(), AllocError>
+    ensures { OnOk result (rest.new.items ≡ waiting.old.requests ++ rest.old.items) }
+{
+    let Some(request) = waiting.take() else {
+        return Ok(());
+    };
+    put_back(waiting, rest)?;
+    match rest.push_front(request) {
+        Ok(()) => Ok(()),
+        Err(_) => Err(AllocError),
     }
 }

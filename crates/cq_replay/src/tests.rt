@@ -4,8 +4,8 @@ use cq_bytes::{Body, Queues};
 use cq_disk::{Disk, Kind, Name};
 use cq_inbox::{Config, PlainInbox, Request};
 use cq_io::{MemSink, MemSource, Status};
-use cq_journal::Reply;
-use cq_memdisk::{Altered, MemDisk};
+use cq_journal::{Event, Reply};
+use cq_memdisk::{Altered, Crashable, MemDisk};
 use cq_node::Node;
 use std::alloc::{AllocError, Global};
 use std::test::Fail;
@@ -160,31 +160,32 @@ fn each_status_has_its_cause(rt: HostRuntime) -> Result<(), Fail> {
 
 #[test]
 fn a_commit_is_one_append_to_each_file(rt: HostRuntime) -> Result<(), Fail> {
-    // The script, the lengths of the small store and of the index, and how many device calls were made.
+    // The script, the lengths of the small store and of the index, and how many device calls were made, the first of them by
+    // the opening.
     let rows = [
         (
             "client 0\npublish 0 text a\npublish 0 text bc\npublish 0 text d\nschedule c0 t0 c0 t0 c0 t0 w\n",
             147,
             224,
-            16,
+            17,
         ),
         (
             "client 0\npublish 0 text a\npublish 0 text bc\nschedule w c0 t0 w c0 t0 w\n",
             141,
             192,
-            26,
+            27,
         ),
         (
             "client 0\npublish 0 text a\nget 0\nschedule w\n",
             134,
             160,
-            17,
+            18,
         ),
         (
             "client 0\npublish 0 text a\nget 0\nschedule c0 t0 w c0 t0 w\n",
             134,
             160,
-            17,
+            18,
         ),
     ];
     for (script, small_len, index_len, calls) in rows {
@@ -237,8 +238,8 @@ fn the_state_after_each_word_is_kept(rt: HostRuntime) -> Result<(), Fail> {
         assert!(rt; false, "another number of sessions");
         return Ok(());
     };
-    // The opening; a publish; its confirm; a get, which reads the small store.
-    let after = [(1, 0), (2, 0), (3, 16), (3, 16), (4, 17)];
+    // The opening, which lists the files; a publish; its confirm; a get, which reads the small store.
+    let after = [(1, 1), (2, 1), (3, 17), (3, 17), (4, 18)];
     assert_eq!(rt; session.after.len(), after.len());
     for k in 0..after.len() {
         let (entries, moment) = after[k];
@@ -287,5 +288,99 @@ fn a_written_body_is_read_back(rt: HostRuntime) -> Result<(), Fail> {
     assert_eq!(rt; *delivery, 0);
     assert_eq!(rt; *queue, 0);
     assert_eq!(rt; body.bytes(), b"ifmmp".as_slice());
+    Ok(())
+}
+
+/// A client that publishes a message and gets one, with this schedule.
+fn hello(alloc: Global, schedule: &str) -> Result<String, AllocError> {
+    format!(in alloc; "client 0\npublish 0 text hello\nget 0\nschedule {schedule}\n")
+}
+
+const CONFIRMED: &[u8] =
+    b"session 0\nc0 published 0\nc0 confirmed 0\nsession 1\nopened q0 1\nc0 got 0 q0 5 text hello\nok\n";
+
+const WRITTEN: &[u8] =
+    b"session 0\nc0 published 0\nsession 1\nopened q0 1\nc0 got 0 q0 5 text hello\nok\n";
+
+const LOST: &[u8] = b"session 0\nc0 published 0\nsession 1\nc0 empty q0\nok\n";
+
+#[test]
+fn a_crash_begins_the_next_session(rt: HostRuntime) -> Result<(), Fail> {
+    // The schedule, and the text. In the last two rows only the last sync of the index is missing: the byte that selects
+    // its slot is 55, which selects the new one, or 0.
+    let alloc = rt.alloc();
+    let rows = [
+        ("c0 t0 w !0 c0 t0", CONFIRMED),
+        ("c0 t0 w !1 c0 t0", CONFIRMED),
+        ("c0 t0 !1 c0 t0", LOST),
+        ("c0 t0 !57/15:w c0 t0", WRITTEN),
+        ("c0 t0 !2/15:w c0 t0", LOST),
+    ];
+    for (schedule, text) in rows {
+        let script = hello(alloc, schedule)?;
+        let row = replayed(alloc, &["replay"], script.as_bytes(), &[], &[], &[])?;
+        assert_eq!(rt; row.status, Status::Ok);
+        assert_eq!(rt; row.text.as_slice(), text);
+    }
+    Ok(())
+}
+
+#[test]
+fn a_stop_at_each_call_leaves_the_message_or_none(rt: HostRuntime) -> Result<(), Fail> {
+    // A commit is 16 calls. Where all were made the message is confirmed, and stands in whatever the crash leaves.
+    let alloc = rt.alloc();
+    for image in [0, 1, 2, 3, 57, 257, 258, 259, 260, 261] {
+        for calls in 0..=17 {
+            let schedule = format!(in alloc; "c0 t0 !{image}/{calls}:w c0 t0")?;
+            let script = hello(alloc, &schedule)?;
+            let row = replayed(alloc, &["replay"], script.as_bytes(), &[], &[], &[])?;
+            assert_eq!(rt; row.status, Status::Ok);
+            let text = row.text.as_slice();
+            assert_eq!(rt; text == CONFIRMED, calls >= 16);
+            assert!(rt; text == CONFIRMED || text == WRITTEN || text == LOST);
+        }
+    }
+    Ok(())
+}
+
+#[test]
+fn a_failed_sync_leaves_no_message(rt: HostRuntime) -> Result<(), Fail> {
+    // After the one call of the opening, the fifth sync of the commit is its 14th call.
+    let alloc = rt.alloc();
+    let row = replayed(alloc, &["replay"], HELLO, &[], &[14], &[])?;
+    assert_eq!(rt; row.status, Status::DiskFault);
+    assert_eq!(rt;
+        row.text.as_slice(),
+        b"session 0\nc0 published 0\nfault disk\n".as_slice()
+    );
+    let mut disk = row.disk;
+    assert!(rt; disk.crash(0).is_ok());
+    let Ok(names) = disk.list(alloc) else {
+        assert!(rt; false, "no names");
+        return Ok(());
+    };
+    let [index, small] = names.as_slice() else {
+        assert!(rt; false, "another number of files");
+        return Ok(());
+    };
+    assert!(rt; *index == file(Kind::Index));
+    assert!(rt; *small == file(Kind::Small));
+    let Some(config) = Config::new(1, 4096, 4096, 16_777_216, 1) else {
+        assert!(rt; false, "numbers out of range");
+        return Ok(());
+    };
+    let Ok(node) = Node::open(alloc, disk, config, PlainInbox::new(alloc, 1)?) else {
+        assert!(rt; false, "no node");
+        return Ok(());
+    };
+    let [entry] = node.journal().entries() else {
+        assert!(rt; false, "other entries");
+        return Ok(());
+    };
+    let Event::Opened { lines } = &entry.event else {
+        assert!(rt; false, "no opening");
+        return Ok(());
+    };
+    assert!(rt; lines.line(0).is_none());
     Ok(())
 }

@@ -13,6 +13,7 @@ loop-round-init g c = (
   c.requires.none_kept,
   refl,
   omega arith,
+  refl,
 )
 
 pub round-requires-clause-none_kept : goal.round-requires-clause-none_kept
@@ -37,6 +38,7 @@ loop-round-preserved g c =
       c.in_ok-round.ensures.none_kept,
       c.round.ensures.after ∙ so_far.3,
       omega (arith, so_far.4, c.in_ok-round.ensures.fewer),
+      c.round.ensures.opened ∙ so_far.5,
     )
 
 pub returns-in_err-round-clause-moves : goal.returns-in_err-round-clause-moves
@@ -48,6 +50,9 @@ returns-in_err-round-clause-moves g c =
 
 pub returns-in_err-round-clause-after : goal.returns-in_err-round-clause-after
 returns-in_err-round-clause-after g c = c.round.ensures.after ∙ c.loop-round.invariant.3
+
+pub returns-in_err-round-clause-opened : goal.returns-in_err-round-clause-opened
+returns-in_err-round-clause-opened g c = c.round.ensures.opened ∙ c.loop-round.invariant.5
 
 pub write_all-requires-clause-none_kept : goal.write_all-requires-clause-none_kept
 write_all-requires-clause-none_kept g c = c.loop-round.invariant.2
@@ -61,6 +66,9 @@ returns-clause-moves g c =
 
 pub returns-clause-after : goal.returns-clause-after
 returns-clause-after g c = c.write_all.ensures.after ∙ c.loop-round.invariant.3
+
+pub returns-clause-opened : goal.returns-clause-opened
+returns-clause-opened g c = c.write_all.ensures.opened ∙ c.loop-round.invariant.5
 
 pub returns-clause-finished : goal.returns-clause-finished
 returns-clause-finished g c =

@@ -18,7 +18,17 @@ loop-preserved g c =
       c.write.ensures.same.0 ∙ so_far.2,
       c.write.ensures.same.1 ∙ so_far.3,
       c.write.ensures.after ∙ so_far.4,
+      c.write.ensures.opened ∙ so_far.5,
     )
 
 pub returns-in-Idle-clause-confirmed : goal.returns-in-Idle-clause-confirmed
 returns-in-Idle-clause-confirmed g c = c.write.ensures.idle (subst IsIdle (sym (c.in_ok-write.was ∙ ap Ok c.in-Idle.is)) tt)
+
+pub returns-in_err-write-clause-opened : goal.returns-in_err-write-clause-opened
+returns-in_err-write-clause-opened g c = c.write.ensures.opened ∙ c.loop.invariant.5
+
+pub returns-in-Idle-clause-opened : goal.returns-in-Idle-clause-opened
+returns-in-Idle-clause-opened g c = c.write.ensures.opened ∙ c.loop.invariant.5
+
+pub returns-in-Idle-clause-held : goal.returns-in-Idle-clause-held
+returns-in-Idle-clause-held g c = c.write.ensures.held (subst IsIdle (sym (c.in_ok-write.was ∙ ap Ok c.in-Idle.is)) tt)
