@@ -7,15 +7,15 @@ ghost use Rattle.cq_index.specs.Places.{entry_at, place_of};
 ghost use Rattle.cq_held.specs.Held.{as_read, contents_of};
 ghost use Rattle.cq_back.specs.declared.error.BackError.TheVariants.{Fault as back_fault, Damaged};
 ghost use Rattle.cq_back.specs.Folder.{index_file, small_file, file_bytes};
-ghost use Rattle.cq_back.specs.Read.{holds_id, gate_in, len_in, IsSmallOf, IsLacking, IsBodyAt, Takes, Breaks, IfDamaged};
+ghost use Rattle.cq_back.specs.Read.{gate_in, len_in, IsSmallOf, AreIdsOf, IsLacking, IsBodyAt, Takes, Breaks, IfDamaged};
 
 use crate::error::BackError;
 use crate::files::INDEX;
 use crate::found::HeldEntry;
+use crate::taken::Taken;
 use cq_bytes::Body;
 use cq_disk::Disk;
 use cq_entry::{Entry, EntryKind, encode};
-use cq_journal::Lines;
 use cq_small::SmallStore;
 use std::alloc::Global;
 
@@ -26,15 +26,16 @@ pub(crate) fn take_in<D: Disk>(
     small: &mut Option<SmallStore>,
     at: u32,
     entry: Entry,
-    held: &mut Vec<HeldEntry>,
-    lines: &mut Lines,
+    taken: &mut Taken,
 ) -> Result<(), BackError>
     requires valid { IsEntry entry }
     requires few { at < 4096 }
     requires present { D.tells → IsPresent (entry_at (file_bytes (D.files disk.old index_file)) at) entry }
     requires small { D.tells → IsSmallOf (gate_in small.old) (D.files disk.old small_file) }
-    ensures ok { OnOk result (Takes D.tells (contents_of (as_read (D.files disk.old)) small_file) (len_in small.old) at entry held.old.items held.new.items lines.old lines.new) }
-    ensures damaged { IfErr result (λ error. IfDamaged error (λ name place found. D.tells → Breaks (contents_of (as_read (D.files disk.old)) small_file) (file_bytes (D.files disk.old index_file)) held.old.items at entry name place found)) }
+    requires ids { AreIdsOf taken.old.ids taken.old.held.items }
+    ensures ok { OnOk result (Takes D.tells (contents_of (as_read (D.files disk.old)) small_file) (len_in small.old) at entry taken.old.held.items taken.new.held.items taken.old.lines taken.new.lines) }
+    ensures ids { OnOk result (AreIdsOf taken.new.ids taken.new.held.items) }
+    ensures damaged { IfErr result (λ error. IfDamaged error (λ name place found. D.tells → Breaks (contents_of (as_read (D.files disk.old)) small_file) (file_bytes (D.files disk.old index_file)) taken.old.held.items at entry name place found)) }
     ensures same { gate_in small.new ≡ gate_in small.old }
     ensures files { D.tells → SameFiles (D.files disk.old) (D.files disk.new) }
     ensures any_moment { D.tells → LeavesOnly D.moment D.left disk.old disk.new (IsImage (D.files disk.old)) }
@@ -43,7 +44,7 @@ pub(crate) fn take_in<D: Disk>(
     ensures strike { StruckByOf back_fault (D.fuse disk.old) (D.moment disk.new) (D.struck disk.old) (D.struck disk.new) result }
     ensures plan { KeepsPlan (D.fuse disk.old) (D.planned disk.old) (D.fuse disk.new) (D.planned disk.new) }
 {
-    if stands(held, entry.id) {
+    if !taken.ids.insert(entry.id)? {
         return Err(broken(&entry, at, 8));
     }
     if entry.kind == EntryKind::Shared {
@@ -52,21 +53,14 @@ pub(crate) fn take_in<D: Disk>(
     let Some(body) = body_of(alloc, disk, small, entry.place, entry.len)? else {
         return Err(broken(&entry, at, 24));
     };
-    held.push(HeldEntry {
+    taken.held.push(HeldEntry {
         queue: 0,
         segment: 0,
         at,
         entry,
     })?;
-    lines.push(0, entry.id, body)?;
+    taken.lines.push(0, entry.id, body)?;
     Ok(())
-}
-
-/// Whether an entry with this id is held.
-fn stands(held: &[HeldEntry], id: u128) -> bool
-    ensures { result ≡ holds_id held.now id }
-{
-    held.iter().any(|one| one.entry.id == id)
 }
 
 /// The entry at a place doesn't fit, for its field that begins at this byte.

@@ -8,18 +8,20 @@ ghost use Rattle.cq_index.specs.Segments.{name_of, count_of, present_of, IsSegme
 ghost use Rattle.cq_held.specs.Held.{as_read, contents_of};
 ghost use Rattle.cq_back.specs.declared.error.BackError.TheVariants.{Fault as back_fault};
 ghost use Rattle.cq_back.specs.Folder.{index_file, small_file, file_bytes};
-ghost use Rattle.cq_back.specs.Read.{gate_in, len_in, IsSmallOf, IsIndexOf, IsRead, AreTaken, AreWithin, BreaksFirst, IfDamaged, piece, seen_of};
+ghost use Rattle.cq_back.specs.Read.{gate_in, len_in, IsSmallOf, IsIndexOf, AreIdsOf, IsRead, AreTaken, AreWithin, BreaksFirst, IfDamaged, piece, seen_of};
 
 use crate::entry::take_in;
 use crate::error::BackError;
 use crate::files::INDEX;
 use crate::found::HeldEntry;
+use crate::taken::Taken;
 use cq_disk::Disk;
 use cq_entry::Entry;
 use cq_index::{Segment, SegmentError};
 use cq_journal::Lines;
 use cq_small::SmallStore;
 use std::alloc::Global;
+use std::collections::BTreeSet;
 
 /// Reads the present entries of a segment in order, each with its message. `Damaged` exactly where one doesn't fit, or, on
 /// a disk that doesn't tell its files, where bytes that were read aren't a present entry's.
@@ -46,14 +48,18 @@ pub(crate) fn read_messages<D: Disk>(
     ensures strike { StruckByOf back_fault (D.fuse disk.old) (D.moment disk.new) (D.struck disk.old) (D.struck disk.new) result }
     ensures plan { KeepsPlan (D.fuse disk.old) (D.planned disk.old) (D.fuse disk.new) (D.planned disk.new) }
 {
-    let mut held = Vec::new(alloc);
-    let mut lines = Lines::new(alloc);
+    let mut taken = Taken {
+        held: Vec::new(alloc),
+        lines: Lines::new(alloc),
+        ids: BTreeSet::new(alloc),
+    };
     for at in 0..segment.count() {
-        match read_next(alloc, disk, segment, small, at, &mut held, &mut lines) {
+        match read_next(alloc, disk, segment, small, at, &mut taken) {
             Ok(()) => {}
             Err(error) => return Err(error),
         }
     }
+    let Taken { held, lines, .. } = taken;
     Ok((held, lines))
 }
 
@@ -64,8 +70,7 @@ fn read_next<D: Disk>(
     segment: &mut Segment,
     small: &mut Option<SmallStore>,
     at: u32,
-    held: &mut Vec<HeldEntry>,
-    lines: &mut Lines,
+    taken: &mut Taken,
 ) -> Result<(), BackError>
     requires name { name_of segment.old ≡ index_file }
     requires below { at < count_of segment.old }
@@ -73,10 +78,12 @@ fn read_next<D: Disk>(
     requires index { D.tells → IsIndexOf (count_of segment.old) (present_of segment.old) (file_bytes (D.files disk.old index_file)) }
     requires segment { D.tells → IsSegment segment.old (D.files disk.old index_file) }
     requires small { D.tells → IsSmallOf (gate_in small.old) (D.files disk.old small_file) }
-    ensures taken { OnOk result (AreTaken at held.old.items lines.old → AreTaken (at + 1) held.new.items lines.new) }
-    ensures within { OnOk result (AreWithin (len_in small.old) held.old.items → AreWithin (len_in small.old) held.new.items) }
-    ensures read { OnOk result (D.tells → IsRead (contents_of (as_read (D.files disk.old))) (file_bytes (D.files disk.old index_file)) at held.old.items lines.old → IsRead (contents_of (as_read (D.files disk.old))) (file_bytes (D.files disk.old index_file)) (at + 1) held.new.items lines.new) }
-    ensures damaged { IfErr result (λ error. IfDamaged error (λ name place found. D.tells → IsRead (contents_of (as_read (D.files disk.old))) (file_bytes (D.files disk.old index_file)) at held.old.items lines.old → AreTaken at held.old.items lines.old → BreaksFirst (contents_of (as_read (D.files disk.old))) (file_bytes (D.files disk.old index_file)) name place found)) }
+    requires ids { AreIdsOf taken.old.ids taken.old.held.items }
+    ensures ids { OnOk result (AreIdsOf taken.new.ids taken.new.held.items) }
+    ensures taken { OnOk result (AreTaken at taken.old.held.items taken.old.lines → AreTaken (at + 1) taken.new.held.items taken.new.lines) }
+    ensures within { OnOk result (AreWithin (len_in small.old) taken.old.held.items → AreWithin (len_in small.old) taken.new.held.items) }
+    ensures read { OnOk result (D.tells → IsRead (contents_of (as_read (D.files disk.old))) (file_bytes (D.files disk.old index_file)) at taken.old.held.items taken.old.lines → IsRead (contents_of (as_read (D.files disk.old))) (file_bytes (D.files disk.old index_file)) (at + 1) taken.new.held.items taken.new.lines) }
+    ensures damaged { IfErr result (λ error. IfDamaged error (λ name place found. D.tells → IsRead (contents_of (as_read (D.files disk.old))) (file_bytes (D.files disk.old index_file)) at taken.old.held.items taken.old.lines → AreTaken at taken.old.held.items taken.old.lines → BreaksFirst (contents_of (as_read (D.files disk.old))) (file_bytes (D.files disk.old index_file)) name place found)) }
     ensures same { segment.new ≡ segment.old }
     ensures same_small { gate_in small.new ≡ gate_in small.old }
     ensures files { D.tells → SameFiles (D.files disk.old) (D.files disk.new) }
@@ -88,7 +95,7 @@ fn read_next<D: Disk>(
 {
     match next_entry(disk, segment, at) {
         Ok(None) => Ok(()),
-        Ok(Some(entry)) => take_in(alloc, disk, small, at, entry, held, lines),
+        Ok(Some(entry)) => take_in(alloc, disk, small, at, entry, taken),
         Err(error) => Err(error),
     }
 }

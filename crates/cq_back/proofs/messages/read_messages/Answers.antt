@@ -15,7 +15,7 @@ returns-in-Err-clause-damaged g c =
     let d = g.D.Disk in
     let i = c.loop-at in
     damaged_to c.in-Err.error _ _ (λ name place found broken told.
-    subst (λ (fs : Name → Option File). IsRead (contents_of (as_read fs)) (file_bytes (fs index_file)) i.at i.held.items i.lines → AreTaken i.at i.held.items i.lines → BreaksFirst (contents_of (as_read fs)) (file_bytes (fs index_file)) name place found)
+    subst (λ (fs : Name → Option File). IsRead (contents_of (as_read fs)) (file_bytes (fs index_file)) i.at i.taken.held.items i.taken.lines → AreTaken i.at i.taken.held.items i.taken.lines → BreaksFirst (contents_of (as_read fs)) (file_bytes (fs index_file)) name place found)
     (same_files (d.files c.args.disk.now) (d.files i.disk) (i.invariant.files told)) (broken told) (i.invariant.read told) i.invariant.taken) c.in-Err.ensures.damaged
 
 pub returns-in-Err-clause-any_moment : goal.returns-in-Err-clause-any_moment
@@ -41,9 +41,10 @@ loop-at-preserved g c =
     let e = c.in-Ok.ensures in
     let new = c.read_next.new in
     record {
+      ids = e.ids;
       taken = e.taken i.invariant.taken;
-      within = subst (λ (len : ℕ). AreWithin len i.held.items → AreWithin len new.held.items) (ap gate_len i.invariant.small) e.within i.invariant.within;
-      read = λ told. subst (λ (fs : Name → Option File). IsRead (contents_of (as_read fs)) (file_bytes (fs index_file)) i.at i.held.items i.lines → IsRead (contents_of (as_read fs)) (file_bytes (fs index_file)) (i.at + 1) new.held.items new.lines)
+      within = subst (λ (len : ℕ). AreWithin len i.taken.held.items → AreWithin len new.taken.held.items) (ap gate_len i.invariant.small) e.within i.invariant.within;
+      read = λ told. subst (λ (fs : Name → Option File). IsRead (contents_of (as_read fs)) (file_bytes (fs index_file)) i.at i.taken.held.items i.taken.lines → IsRead (contents_of (as_read fs)) (file_bytes (fs index_file)) (i.at + 1) new.taken.held.items new.taken.lines)
           (same_files (d.files c.args.disk.now) (d.files i.disk) (i.invariant.files told)) (e.read told) (i.invariant.read told);
       segment = e.same ∙ i.invariant.segment;
       small = e.same_small ∙ i.invariant.small;

@@ -3,7 +3,7 @@ use Rattle.cq_disk.specs.Files.{IsImage, SameFiles}
 use Rattle.cq_disk.specs.Call.{LeavesOnly}
 use Rattle.cq_held.specs.Held.{as_read, contents_of}
 use Rattle.cq_back.specs.Folder.{index_file, file_bytes}
-use Rattle.cq_back.specs.Read.{gate_in, len_in, AreTaken, AreWithin, IsRead}
+use Rattle.cq_back.specs.Read.{gate_in, len_in, AreIdsOf, AreTaken, AreWithin, IsRead}
 use Rattle.cq_back.proofs.messages.read_messages.Given as goal
 
 abbrev pub invariant-loop-at : goal.invariant-loop-at
@@ -12,9 +12,10 @@ invariant-loop-at g l =
     let start = l.fn.disk in
     let now = l.disk in
     record {
-      taken : AreTaken l.at l.held.items l.lines;
-      within : AreWithin (len_in l.fn.small) l.held.items;
-      read : d.tells → IsRead (contents_of (as_read (d.files start))) (file_bytes (d.files start index_file)) l.at l.held.items l.lines;
+      ids : AreIdsOf l.taken.ids l.taken.held.items;
+      taken : AreTaken l.at l.taken.held.items l.taken.lines;
+      within : AreWithin (len_in l.fn.small) l.taken.held.items;
+      read : d.tells → IsRead (contents_of (as_read (d.files start))) (file_bytes (d.files start index_file)) l.at l.taken.held.items l.taken.lines;
       segment : l.segment ≡ l.fn.segment;
       small : gate_in l.small ≡ gate_in l.fn.small;
       files : d.tells → SameFiles (d.files start) (d.files now);
