@@ -1,14 +1,14 @@
 -- How many entries a crash may leave in an index.
-use Rattle.std.proofs.Common.{◌≡◌, ◌≢◌, inl, inr, ⊎_elim, ℕ, zero, ◌+◌, ◌*◌, ◌≤◌, List, [], ◌++◌, length, Option, Some, None, refl, sym, ap, ◌∙◌, subst, arith, length-append}
+use Rattle.std.proofs.Common.{◌≡◌, inl, inr, ⊎_elim, ℕ, ◌+◌, ◌*◌, ◌≤◌, List, length, Option, Some, None, refl, sym, ap, ◌∙◌, subst, arith, length-append}
 use Rattle.std.specs.Prelude.{if◌then◌else◌}
 use Rattle.std.specs.BTreeMap.{is_at}
 use Rattle.std.proofs.lemmas.Bool.{cases_Bool}
 use Rattle.cq_disk.specs.declared.name.Name.{Name}
 use Rattle.cq_disk.specs.Names.{name_cmp}
-use Rattle.cq_disk.specs.NamesLemmas.{found_is, found_self, apart}
+use Rattle.cq_disk.specs.NamesLemmas.{found_is, found_self}
 use Rattle.cq_disk.specs.Call.{Image, LeavesOnly}
 use Rattle.cq_disk.specs.File.{File, IsFileImage}
-use Rattle.cq_disk.specs.Files.{IsImage, IsImageOf, AmongBytes, Among, OnFile, Creates}
+use Rattle.cq_disk.specs.Files.{IsImage, IsImageOf, AmongBytes, OnFile, Creates}
 use Rattle.cq_gate.specs.Format.{content}
 use Rattle.cq_gate.specs.Gated.{From, KeepsOrAdds}
 use Rattle.cq_entry.specs.declared.entry.Entry.{Entry}

@@ -1,5 +1,5 @@
 -- The steps of a node keep its journal steady.
-use Rattle.std.proofs.Common.{◌≡◌, ◌≢◌, inl, inr, ℕ, ◌+◌, ◌≤◌, Bool, true, false, cond, List, [], ◌∷◌, ◌++◌, Option, Some, refl, sym, ap, ◌∙◌, subst, arith}
+use Rattle.std.proofs.Common.{◌≡◌, ◌≢◌, inl, inr, ℕ, ◌≤◌, Bool, true, false, cond, List, [], ◌∷◌, ◌++◌, Option, Some, refl, sym, ap, ◌∙◌, subst, arith}
 use Rattle.std.specs.Prelude.{◌==◌}
 use Rattle.std.specs.List.{AllByRecursion}
 use Rattle.std.proofs.Math.Logic.{∥∥₁_map}
@@ -13,7 +13,7 @@ use Rattle.cq_disk.specs.Files.{IsImage, IsImageOf, SameFiles}
 use Rattle.cq_entry.specs.declared.entry.Entry.{Entry as IndexEntry}
 use Rattle.cq_entry.specs.declared.entry.Seen.{Seen}
 use Rattle.cq_entry.specs.Entry.{entry_bytes, IsPresent}
-use Rattle.cq_small.specs.Record.{HasRecord, StandsIn}
+use Rattle.cq_small.specs.Record.{HasRecord}
 use Rattle.cq_index.specs.Places.{index_name}
 use Rattle.cq_inbox.specs.declared.request.Request.{Request}
 use Rattle.cq_journal.specs.declared.event.Event.{Event}

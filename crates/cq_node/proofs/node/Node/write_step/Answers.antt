@@ -1,15 +1,12 @@
-use Rattle.std.proofs.Common.{◌≡◌, ℕ, ◌≤◌, ◌<◌, ◌+◌, ◌-◌, List, [], ◌∷◌, ◌++◌, Option, drop, length, subst, refl, sym, ap, ◌∙◌, arith}
+use Rattle.std.proofs.Common.{◌≡◌, ℕ, ◌≤◌, ◌<◌, ◌+◌, ◌-◌, List, length, subst, refl, sym, ap, ◌∙◌, arith}
 use Rattle.std.specs.Prelude.{All}
 use Rattle.std.specs.List.{AllByRecursion}
 use Rattle.std.proofs.Math.Logic.{∥∥₁_elim, ∥∥₁_map}
 use Rattle.std.proofs.lemmas.Bool.{false≢true}
-use Rattle.cq_entry.specs.declared.entry.Entry.{Entry}
 use Rattle.cq_entry.specs.Entry.{IsEntry}
-use Rattle.cq_small.specs.declared.store.SmallStore.{SmallStore}
 use Rattle.cq_small.specs.Record.{HasRecord, StandsIn}
 use Rattle.cq_small.specs.Store.{small_name}
 use Rattle.cq_index.specs.Places.{index_name}
-use Rattle.cq_index.specs.Segments.{count_of, len_of}
 use Rattle.cq_inbox.specs.Requests.{publishes}
 use Rattle.cq_journal.specs.Asks.{asks, replies}
 use Rattle.cq_journal.specs.Confirms.{confirmed}
@@ -22,14 +19,13 @@ use Rattle.cq_core.specs.declared.queue.Spot.{Spot}
 use Rattle.cq_core.specs.Answers.{AddsSince}
 use Rattle.cq_core.specs.Batch.{IsBatch}
 use Rattle.cq_core.specs.Core.{undecided, IsQuiet, IsWhole, IsWritable}
-use Rattle.cq_core.specs.Stored.{IsSpotOf, stored, unstored, stored_count, records_of, spots_of, passes, content_in, unsent}
+use Rattle.cq_core.specs.Stored.{IsSpotOf, stored, unstored, stored_count, records_of, spots_of, passes, content_in}
 use Rattle.cq_core.proofs.Counts.{published-asked}
 use Rattle.cq_core.proofs.Laid.{length-spots, count-entries}
 use Rattle.cq_core.proofs.Passing.{passed_stand}
 use Rattle.cq_core.proofs.Stands.{spots-match}
 use Rattle.cq_node.specs.Agreeing.{stored_lines, WillJoin}
-use Rattle.cq_node.specs.Files.{small_end, small_length, small_calls, index_calls, HasFew, HasNoOther}
-use Rattle.cq_node.specs.Opening.{AreWithin}
+use Rattle.cq_node.specs.Files.{small_end, small_length, small_calls, index_calls, HasFew}
 use Rattle.cq_node.proofs.Agreeing.{laws}
 use Rattle.cq_node.proofs.Answered.{few_upto, all_drop, confirmed_all, placed_all, within_all, places_now, calls_at}
 use Rattle.cq_node.proofs.Steadying.{all_lines, all_safe, come, now_lines, stands_held}
@@ -40,12 +36,12 @@ pub batch_of-requires-clause-few : goal.batch_of-requires-clause-few
 batch_of-requires-clause-few g c = omega (arith, c.undecided-2.ensures.count, c.args.self.now.few, published-asked c.args.self.now.core.entries)
 
 pub batch_of-requires-clause-writable : goal.batch_of-requires-clause-writable
-batch_of-requires-clause-writable g c = 
+batch_of-requires-clause-writable g c =
     let journal = c.args.self.now.core.entries in
     subst (λ ms. AllByRecursion IsWritable ms) (sym c.undecided-2.ensures.same) (all_drop IsWritable (stored_count journal) (line journal 0) c.journal.ensures.writable)
 
 pub commit-written-requires-clause-records : goal.commit-written-requires-clause-records
-commit-written-requires-clause-records g c = 
+commit-written-requires-clause-records g c =
     let journal = c.args.self.now.core.entries in
     let ms = c.undecided-2.result.now.items in
     let few : length ms ≤ 4096 = omega (arith, c.undecided-2.ensures.count, c.args.self.now.few, published-asked journal) in
@@ -53,7 +49,7 @@ commit-written-requires-clause-records g c =
     (batch_long c.base-base.result ms c.in-Ok.batch c.in-Ok.ensures some few).0
 
 pub commit-written-requires-clause-entries : goal.commit-written-requires-clause-entries
-commit-written-requires-clause-entries g c = 
+commit-written-requires-clause-entries g c =
     let journal = c.args.self.now.core.entries in
     let ms = c.undecided-2.result.now.items in
     let few : length ms ≤ 4096 = omega (arith, c.undecided-2.ensures.count, c.args.self.now.few, published-asked journal) in
@@ -62,7 +58,7 @@ commit-written-requires-clause-entries g c =
     (omega (arith, ap length c.deref.ensures.value, count, some), subst (All IsEntry) (sym c.deref.ensures.value) c.in-Ok.ensures.valid)
 
 pub commit-written-requires-clause-reserved : goal.commit-written-requires-clause-reserved
-commit-written-requires-clause-reserved g c = 
+commit-written-requires-clause-reserved g c =
     let journal = c.args.self.now.core.entries in
     let ms = c.undecided-2.result.now.items in
     let few : length ms ≤ 4096 = omega (arith, c.undecided-2.ensures.count, c.args.self.now.few, published-asked journal) in
@@ -71,7 +67,7 @@ commit-written-requires-clause-reserved g c =
     omega (arith, ap length c.deref.ensures.value, count, c.undecided.ensures.count, c.undecided-2.ensures.count, c.len-count.ensures, no_error c.reserve-else-is_err.result (sym c.is_err-else-is_err.ensures.value ∙ c.if-is_err-2.false) c.reserve-else-is_err.ensures.reserved)
 
 pub commit-written-requires-clause-few : goal.commit-written-requires-clause-few
-commit-written-requires-clause-few g c = 
+commit-written-requires-clause-few g c =
     let journal = c.args.self.now.core.entries in
     let ms = c.undecided-2.result.now.items in
     let few : length ms ≤ 4096 = omega (arith, c.undecided-2.ensures.count, c.args.self.now.few, published-asked journal) in
@@ -94,14 +90,14 @@ returns-then-count-eq0-clause-held g c = λ idle told.
     (∥∥₁_map (a.standing c.if-self.false told) (stands_held d.moment d.left d.files (g.met.D.Disk.now_only told) (g.met.D.Disk.now_each told) (g.met.D.Disk.reads_left told) a.store.disk journal (stored_lines journal)))
 
 pub confirm_all-requires-clause-places : goal.confirm_all-requires-clause-places
-confirm_all-requires-clause-places g c = 
+confirm_all-requires-clause-places g c =
     let is = c.in-Ok.ensures in
     let ms = c.undecided-2.result.now.items in
     subst (λ (l : List Spot). Zip IsSpotOf l (unstored c.reserve.new.self.entries)) (sym (c.deref-2.ensures.value ∙ is.spots))
     (subst (λ l. Zip IsSpotOf (spots_of c.base-base.result ms) l) (c.undecided-2.ensures.same ∙ ap unstored (sym c.reserve.ensures.entries)) (spots-match c.base-base.result ms))
 
 pub confirm_all-requires-clause-reserved : goal.confirm_all-requires-clause-reserved
-confirm_all-requires-clause-reserved g c = 
+confirm_all-requires-clause-reserved g c =
     let spots : length c.deref-2.result.now ≡ length c.undecided-2.result.now.items = ap length c.deref-2.ensures.value ∙ ap length c.in-Ok.ensures.spots ∙ length-spots c.base-base.result c.undecided-2.result.now.items in
     omega (arith, spots, no_error c.reserve.result (sym c.is_err.ensures.value ∙ c.if-is_err.false) c.reserve.ensures.reserved, c.undecided.ensures.count, c.undecided-2.ensures.count, c.len-count.ensures)
 
@@ -169,7 +165,7 @@ invariant_of-self-3-clause-whole g c = λ told.
     c.confirm_all.ensures.whole kept
 
 pub invariant_of-self-3-clause-few : goal.invariant_of-self-3-clause-few
-invariant_of-self-3-clause-few g c = 
+invariant_of-self-3-clause-few g c =
     let same : publishes (asks c.confirm_all.new.self.entries 0) ≡ publishes (asks c.args.self.now.core.entries 0) = ap publishes (c.confirm_all.ensures.quiet.asked ∙ ap (λ l. asks l 0) c.reserve.ensures.entries) in
     omega (arith, same, c.args.self.now.few)
 
@@ -318,7 +314,7 @@ invariant_of-self-3-clause-steady g c = λ told.
     (c.commit-written.ensures.steady told journal lines (unstored journal) c.journal.ensures.legal s will steady)))
 
 pub returns-clause-wrote : goal.returns-clause-wrote
-returns-clause-wrote g c = 
+returns-clause-wrote g c =
     let moment = g.D.Disk.moment in
     let a = c.args.self.now in
     let now = c.confirm_all.new.self.entries in
