@@ -19,7 +19,7 @@ ghost use Rattle.cq_held.specs.Standing.{StillHolds};
 ghost use Rattle.cq_back.specs.declared.error.BackError.TheVariants.{Fault as back_fault};
 ghost use Rattle.cq_back.specs.Folder.{index_file, small_file, IsOneQueue, IsShort, ReadsSame, IsImageOrWithout, IsWithoutStray};
 ghost use Rattle.cq_back.specs.Read.{IsSmallOf, gate_in, len_in, AreHeld, AreMatched, AreTaken, AreWithin, IfDamaged};
-ghost use Rattle.cq_back.specs.Found.{BreaksFolder};
+ghost use Rattle.cq_back.specs.Found.{BreaksFolder, IsUnsound};
 
 use crate::error::BackError;
 use crate::files::{INDEX, SMALL, open_index, open_small};
@@ -65,6 +65,8 @@ pub fn open_folder<D: Disk>(alloc: Global, disk: &mut D) -> Result<FoundQueue, B
     // Without a fault an error comes before anything else than syncs and reads was done.
     ensures reads { IfErr result (λ error. D.tells → (error ≡ back_fault → ⊥) → ReadsSame (D.files disk.old) (D.files disk.new)) }
     ensures only_reads { IfErr result (λ error. D.tells → (error ≡ back_fault → ⊥) → LeavesOnly D.moment D.left disk.old disk.new (IsImage (D.files disk.old))) }
+    // Of such a folder that isn't sound nothing else was done, also where a fault is told.
+    ensures unsound { IfErr result (λ error. D.tells → IsOneQueue (D.files disk.old) → IsUnsound (as_read (D.files disk.old)) → LeavesOnly D.moment D.left disk.old disk.new (IsImage (D.files disk.old))) }
     // No file is there that wasn't there before, whichever the answer.
     ensures no_new { D.tells → (n : Name) → D.files disk.old n ≡ None → D.files disk.new n ≡ None }
     // A crash at any moment leaves what it could have left before, with the small store that was to be removed or without.
@@ -97,6 +99,7 @@ fn open_queue<D: Disk>(alloc: Global, disk: &mut D) -> Result<FoundQueue, BackEr
     ensures damaged { IfErr result (λ error. IfDamaged error (λ name place found. D.tells → BreaksFolder (as_read (D.files disk.old)) name place found)) }
     ensures reads { IfErr result (λ error. D.tells → (error ≡ back_fault → ⊥) → ReadsSame (D.files disk.old) (D.files disk.new)) }
     ensures only_reads { IfErr result (λ error. D.tells → (error ≡ back_fault → ⊥) → LeavesOnly D.moment D.left disk.old disk.new (IsImage (D.files disk.old))) }
+    ensures unsound { IfErr result (λ error. D.tells → IsOneQueue (D.files disk.old) → IsUnsound (as_read (D.files disk.old)) → LeavesOnly D.moment D.left disk.old disk.new (IsImage (D.files disk.old))) }
     ensures no_new { D.tells → (n : Name) → D.files disk.old n ≡ None → D.files disk.new n ≡ None }
     ensures any_moment { D.tells → LeavesOnly D.moment D.left disk.old disk.new (IsImageOrWithout (D.files disk.old)) }
     ensures cause { CausedOf back_fault (D.faults disk.old) (D.faults disk.new) result }

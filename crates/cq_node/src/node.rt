@@ -18,7 +18,7 @@ ghost use Rattle.cq_held.specs.Held.{as_read, contents_of, Held};
 ghost use Rattle.cq_held.specs.Steady.{SoundBy, Steady, SteadyWhere-prop};
 ghost use Rattle.cq_held.specs.Standing.{Standing, StillHolds};
 ghost use Rattle.cq_back.specs.Folder.{ReadsSame};
-ghost use Rattle.cq_back.specs.Found.{BreaksFolder};
+ghost use Rattle.cq_back.specs.Found.{BreaksFolder, IsUnsound};
 ghost use Rattle.cq_core.specs.Answers.{bodiless};
 ghost use Rattle.cq_core.specs.Core.{IsWhole, TakesNextIds};
 ghost use Rattle.cq_core.specs.Found.{Finds};
@@ -127,6 +127,8 @@ impl<D: Disk> Node<D> {
         // Where a rule is broken, nothing else than syncs and reads was done.
         ensures reads { IfErr result (λ back. IfBroken back.error (λ name place found. D.tells → ReadsSame (D.files disk) (D.files back.disk))) }
         ensures only_reads { IfErr result (λ back. IfBroken back.error (λ name place found. D.tells → LeavesOnly D.moment D.left disk back.disk (IsImage (D.files disk)))) }
+        // Nor was anything else done to a folder that isn't sound, whichever the refusal.
+        ensures unsound { IfErr result (λ back. D.tells → IsUnsound (as_read (D.files disk)) → LeavesOnly D.moment D.left disk back.disk (IsImage (D.files disk))) }
         // If whatever a crash could leave before held some messages, it holds them at every moment meanwhile, whichever the
         // answer; and no file is new.
         ensures meanwhile { (lines : ℕ → List Message) → D.tells → StillHolds (D.files disk) lines → IfOk result (λ node. LeavesOnly D.moment D.left disk node.store.disk (λ image. SoundBy image lines)) × IfErr result (λ back. LeavesOnly D.moment D.left disk back.disk (λ image. SoundBy image lines)) }
@@ -458,6 +460,7 @@ fn open_queue<D: Disk>(alloc: Global, disk: &mut D) -> Result<Opened, OpenError>
     ensures refuses { IfErr result (λ error. IfBroken error (λ name place found. D.tells → HasFew (D.files disk.old (index_name 0 0)) 4096 → (lines : ℕ → List Message) → SoundBy (as_read (D.files disk.old)) lines → ⊥)) }
     ensures reads { IfErr result (λ error. IfBroken error (λ name place found. D.tells → ReadsSame (D.files disk.old) (D.files disk.new))) }
     ensures only_reads { IfErr result (λ error. IfBroken error (λ name place found. D.tells → LeavesOnly D.moment D.left disk.old disk.new (IsImage (D.files disk.old)))) }
+    ensures unsound { IfErr result (λ error. D.tells → IsUnsound (as_read (D.files disk.old)) → LeavesOnly D.moment D.left disk.old disk.new (IsImage (D.files disk.old))) }
     ensures meanwhile { D.tells → (lines : ℕ → List Message) → StillHolds (D.files disk.old) lines → LeavesOnly D.moment D.left disk.old disk.new (λ image. SoundBy image lines) }
     ensures cause { CausedOf open_fault (D.faults disk.old) (D.faults disk.new) result }
     ensures later { D.moment disk.old ≤ D.moment disk.new }

@@ -1,5 +1,5 @@
 // One client that is served by a node, step by step.
-ghost use Rattle.std.specs.Prelude.{◌≡◌, ℕ, ◌<◌, ◌≤◌, ◌+◌, ◌++◌, ◌∷◌, [], None, true, false, length, OnOk, OnErr, IfSome, IsErrOf, reverse, vec_len, vec_capacity};
+ghost use Rattle.std.specs.Prelude.{◌≡◌, ℕ, ◌<◌, ◌≤◌, ◌+◌, ◌++◌, ◌∷◌, [], None, true, false, length, OnOk, OnErr, IfSome, IsErrOf, reverse, vec_len, vec_capacity, Some, min, ◌-◌, ◌^◌};
 ghost use Rattle.std.specs.List.{list_all};
 ghost use Rattle.cq_disk.specs.Call.{CausedOf, StruckByOf, KeepsPlan};
 ghost use Rattle.cq_inbox.specs.Requests.{publishes};
@@ -110,6 +110,7 @@ impl<D: Crashable> Player<D> {
         requires none_kept { self.old.node.waiting.kept ≡ false }
         ensures moves { MovesOn (D.moment self.old.node.store.disk) self.old.node.core.entries self.new.node.core.entries self.old.node.waiting self.new.node.waiting self.old.rest.items self.new.rest.items }
         ensures same { (self.new.rest ≡ self.old.rest) × (self.new.after ≡ self.old.after) × (self.new.node.opened ≡ self.old.node.opened) }
+        ensures fuse { D.fuse self.new.node.store.disk ≡ Some (min (D.moment self.old.node.store.disk + calls) (2 ^ 64 - 1)) }
         ensures ends { OnOk result ((image : ℕ) → EndsBy (StepWord.Stop image calls step) (length self.old.node.core.entries) self.new.node.core.entries) }
         ensures memory { OnErr result (result ≡ Err NodeError.Memory) }
         ensures later { D.moment self.old.node.store.disk ≤ D.moment self.new.node.store.disk }

@@ -10,6 +10,7 @@ use Rattle.cq_held.specs.Held.{Zip, as_read}
 use Rattle.cq_held.specs.Steady.{SoundBy}
 use Rattle.cq_held.specs.Laws.{opening}
 use Rattle.cq_back.specs.declared.found.HeldEntry.{HeldEntry}
+use Rattle.cq_back.specs.Found.{BreaksFolder}
 use Rattle.cq_core.specs.declared.queue.Spot.{Spot}
 use Rattle.cq_core.specs.Stored.{AreAt, IsSpotOf, content_in, stored}
 use Rattle.cq_node.specs.Files.{HasFew, small_length}
@@ -87,3 +88,18 @@ returns-in-Ok-open-clause-index g c =
 
 pub returns-in-Ok-open-clause-few : goal.returns-in-Ok-open-clause-few
 returns-in-Ok-open-clause-few g c = λ told. few_found c.in-Ok.found.segment (g.D.Disk.files c.open_folder.new.disk (index_name 0 0)) (c.in-Ok.ensures.settled told (index_name 0 0)) (c.in-Ok.ensures.segment told)
+
+pub returns-in-Err-clause-unsound : goal.returns-in-Err-clause-unsound
+returns-in-Err-clause-unsound g c = λ told unsound. c.in-Err.ensures.unsound told (one_queue (g.D.Disk.files c.args.disk.now) (c.requires.one_queue told)) unsound
+
+-- a folder that could be opened is sound
+pub returns-in_default-clause-unsound : goal.returns-in_default-clause-unsound
+returns-in_default-clause-unsound g c = λ told unsound. absurd (unsound (λ q. opened_in q c.in-Ok.found.lines) (c.in-Ok.ensures.ok told (one_queue (g.D.Disk.files c.args.disk.now) (c.requires.one_queue told))))
+
+pub returns-in-Err-open-clause-unsound : goal.returns-in-Err-open-clause-unsound
+returns-in-Err-open-clause-unsound g c = λ told unsound. absurd (unsound (λ q. opened_in q c.in-Ok.found.lines) (c.in-Ok.ensures.ok told (one_queue (g.D.Disk.files c.args.disk.now) (c.requires.one_queue told))))
+
+pub returns-in-Err-clause-damaged : goal.returns-in-Err-clause-damaged
+returns-in-Err-clause-damaged g c =
+    subst (λ e. IfBroken e (λ name place found. g.D.Disk.tells → BreaksFolder (as_read (g.D.Disk.files c.args.disk.now)) name place found)) (sym c.as_open_error.ensures)
+    (broken_to c.in-Err.error _ _ (λ name place found broken. broken) c.in-Err.ensures.damaged)
