@@ -20,7 +20,7 @@ use Rattle.cq_journal.specs.declared.session.Session.{Session}
 use Rattle.cq_script.specs.declared.script.Script.{Script}
 use Rattle.cq_script.specs.declared.script.StepWord.{StepWord}
 use Rattle.cq_script.specs.declared.reading.Reading.{Reading}
-use Rattle.cq_replay.specs.Sessions.{Sessions, AreLegal}
+use Rattle.cq_replay.specs.Sessions.{Sessions}
 use Rattle.cq_replay.specs.Played.{AreSessions, ServeAll}
 use Rattle.cq_replay.specs.Outcomes.{IsOfForm, AgreesWithInput, SaysScript, AreSessionsOf, ServesAllOf}
 
@@ -86,16 +86,6 @@ sessions-of (Some input) script (requests ∷ []) sessions same are (reading, sa
     let requests_are : requests ≡ asked = head (sym same ∙ is.streams_is) ∙ ap (λ (r : Reading). r.requests) (sym one) ∙ asked_is in
     let steps_are : script.steps ≡ words = is.steps_is ∙ ap (λ (r : Reading). r.steps) (sym one) ∙ words_are in
     subst (λ rs. Sessions rs words sessions) requests_are (subst (λ ws. Sessions requests ws sessions) steps_are are)
-
--- no sessions are those of any input
-pub sessions-none : (left : Option (List ℕ)) (sessions : List Session) → sessions ≡ [] → IfSome left (AreSessionsOf sessions)
-sessions-none None sessions none = tt
-sessions-none (Some input) sessions none = λ requests words says. subst (λ ss. Sessions requests words ss) (sym none) (record { legal = tt; begins = tt; plays = tt })
-
-pub sessions-legal : (streams : List (List Request)) (words : List StepWord) (sessions : List Session) → AreSessions streams words sessions → AreLegal sessions
-sessions-legal [] words sessions are = absurd are
-sessions-legal (requests ∷ []) words sessions are = are.legal
-sessions-legal (requests ∷ r ∷ streams) words sessions are = absurd are
 
 -- sessions that serve all of a script serve all that the input says
 pub serves-all : (left : Option (List ℕ)) (script : Script) (streams : List (List Request)) (sessions : List Session) → script.streams ≡ streams → ServeAll streams script.steps sessions → IfSome left (SaysScript script) → ServesAllOf left sessions

@@ -70,7 +70,8 @@ opening_asks : (m stamp : ℕ) (v : Event) → IsOpening m (record { event = v; 
 opening_asks m stamp (Opened lines) is = refl
 opening_asks m stamp _ is = absurd is.1
 
-opened_asks : (m : ℕ) (journal : List Entry) → IsOpening m journal → asks journal 0 ≡ []
+-- an opening asks nothing
+pub opened_asks : (m : ℕ) (journal : List Entry) → IsOpening m journal → asks journal 0 ≡ []
 opened_asks m [] is = absurd is
 opened_asks m (e ∷ f ∷ past) is = absurd is
 opened_asks m (e ∷ []) is = opening_asks m e.stamp e.event is

@@ -187,7 +187,7 @@ texts_more n (s ∷ ss) t =
     ap (λ l. text_of n s.journal.entries s.cut.items ++ l) (texts_more (n + 1) ss t ∙ ap (λ k. texts_of (n + 1) ss ++ text_of k t.journal.entries t.cut.items) same)
     ∙ sym (append_assoc (text_of n s.journal.entries s.cut.items) (texts_of (n + 1) ss) (text_of (n + length (s ∷ ss)) t.journal.entries t.cut.items))
 
-pub adds_then : {A : Type 0} (a b c : Option (List A)) (xs ys : List A) → Adds a b xs → Adds b c ys → Adds a c (xs ++ ys)
+adds_then : {A : Type 0} (a b c : Option (List A)) (xs ys : List A) → Adds a b xs → Adds b c ys → Adds a c (xs ++ ys)
 adds_then None b c xs ys first next = tt
 adds_then (Some x) None c xs ys first next = absurd first
 adds_then (Some x) (Some y) None xs ys first next = absurd next

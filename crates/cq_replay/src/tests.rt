@@ -1,4 +1,10 @@
 // Scripts with their texts, statuses and files.
+ghost use Rattle.std.specs.Prelude.{◌≡◌, ℕ, Option, IsTrue};
+ghost use Rattle.cq_disk.specs.declared.name.Name.{Name};
+ghost use Rattle.cq_disk.specs.File.{File};
+ghost use Rattle.cq_disk.specs.Files.{NamesAre};
+ghost use Rattle.cq_node.specs.Files.{HasNoOther};
+
 use crate::offline;
 use cq_bytes::{Body, Queues};
 use cq_disk::{Disk, Kind, Name};
@@ -262,6 +268,10 @@ fn a_written_body_is_read_back(rt: HostRuntime) -> Result<(), Fail> {
         assert!(rt; false, "no node");
         return Ok(());
     };
+    if node.opened != 0 {
+        assert!(rt; false, "a message in an empty folder");
+        return Ok(());
+    }
     let mut queues = Queues::new(alloc);
     if queues.push(0).is_err() {
         assert!(rt; false, "no queue");
@@ -291,6 +301,23 @@ fn a_written_body_is_read_back(rt: HostRuntime) -> Result<(), Fail> {
     Ok(())
 }
 
+/// Whether the names are those of the index and the small store. Then a folder with these names has no other file.
+fn are_both(names: &[Name]) -> bool
+    ensures { (files : Name → Option File) → IsTrue result → NamesAre files names.now → HasNoOther files }
+{
+    if names.len() != 2 {
+        return false;
+    }
+    is_file(names[0], Kind::Index) && is_file(names[1], Kind::Small)
+}
+
+/// Whether the name is that of queue 0's file of this kind with number 0.
+fn is_file(name: Name, kind: Kind) -> bool
+    ensures { IsTrue result → name ≡ record { kind = kind; queue = 0; number = 0 } }
+{
+    name.kind == kind && name.queue == 0 && name.number == 0
+}
+
 /// A client that publishes a message and gets one, with this schedule.
 fn hello(alloc: Global, schedule: &str) -> Result<String, AllocError> {
     format!(in alloc; "client 0\npublish 0 text hello\nget 0\nschedule {schedule}\n")
@@ -302,25 +329,31 @@ const CONFIRMED: &[u8] =
 const WRITTEN: &[u8] =
     b"session 0\nc0 published 0\nsession 1\nopened q0 1\nc0 got 0 q0 5 text hello\nok\n";
 
+const AGAIN: &[u8] =
+    b"session 0\nsession 1\nc0 published 0\nc0 got 0 q0 5 text hello\nc0 confirmed 0\nok\n";
+
 const LOST: &[u8] = b"session 0\nc0 published 0\nsession 1\nc0 empty q0\nok\n";
 
 #[test]
 fn a_crash_begins_the_next_session(rt: HostRuntime) -> Result<(), Fail> {
-    // The schedule, and the text. In the last two rows only the last sync of the index is missing: the byte that selects
-    // its slot is 55, which selects the new one, or 0.
+    // The schedule, the text, and the byte that selects the index's slot in the end. In the fourth row both requests were
+    // handed in and none was answered. In the last two only the last sync of the index is missing.
     let alloc = rt.alloc();
     let rows = [
-        ("c0 t0 w !0 c0 t0", CONFIRMED),
-        ("c0 t0 w !1 c0 t0", CONFIRMED),
-        ("c0 t0 !1 c0 t0", LOST),
-        ("c0 t0 !57/15:w c0 t0", WRITTEN),
-        ("c0 t0 !2/15:w c0 t0", LOST),
+        ("c0 t0 w !0 c0 t0", CONFIRMED, Some(1)),
+        ("c0 t0 w !1 c0 t0", CONFIRMED, Some(1)),
+        ("c0 t0 !1 c0 t0", LOST, None),
+        ("c0 c0 !0", AGAIN, Some(1)),
+        ("c0 t0 !57/15:w c0 t0", WRITTEN, Some(55)),
+        ("c0 t0 !2/15:w c0 t0", LOST, Some(0)),
     ];
-    for (schedule, text) in rows {
+    for (schedule, text, selector) in rows {
         let script = hello(alloc, schedule)?;
         let row = replayed(alloc, &["replay"], script.as_bytes(), &[], &[], &[])?;
         assert_eq!(rt; row.status, Status::Ok);
         assert_eq!(rt; row.text.as_slice(), text);
+        let index = row.disk.bytes(file(Kind::Index));
+        assert_eq!(rt; index.and_then(|bytes| bytes.get(16).copied()), selector);
     }
     Ok(())
 }
@@ -359,12 +392,10 @@ fn a_failed_sync_leaves_no_message(rt: HostRuntime) -> Result<(), Fail> {
         assert!(rt; false, "no names");
         return Ok(());
     };
-    let [index, small] = names.as_slice() else {
-        assert!(rt; false, "another number of files");
+    if !are_both(&names) {
+        assert!(rt; false, "other files");
         return Ok(());
-    };
-    assert!(rt; *index == file(Kind::Index));
-    assert!(rt; *small == file(Kind::Small));
+    }
     let Some(config) = Config::new(1, 4096, 4096, 16_777_216, 1) else {
         assert!(rt; false, "numbers out of range");
         return Ok(());
