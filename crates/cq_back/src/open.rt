@@ -9,7 +9,7 @@ ghost use Rattle.cq_journal.specs.History.{opened_in};
 ghost use Rattle.cq_journal.specs.Legal.{AreLines};
 ghost use Rattle.cq_gate.specs.declared.gate.Gate.{Gate};
 ghost use Rattle.cq_held.specs.Held.{as_read, contents_of};
-ghost use Rattle.cq_held.specs.Steady.{SoundBy};
+ghost use Rattle.cq_held.specs.Steady.{IsUnsound, SoundBy};
 ghost use Rattle.cq_small.specs.declared.store.SmallStore.{SmallStore};
 ghost use Rattle.cq_small.specs.Store.{len_of as store_len};
 ghost use Rattle.cq_index.specs.Codec.{entry_len, most_entries};
@@ -17,9 +17,9 @@ ghost use Rattle.cq_index.specs.Segments.{name_of, count_of, len_of, IsOpen, IsV
 ghost use Rattle.cq_held.specs.Folder.{IsSettled};
 ghost use Rattle.cq_held.specs.Standing.{StillHolds};
 ghost use Rattle.cq_back.specs.declared.error.BackError.TheVariants.{Fault as back_fault};
-ghost use Rattle.cq_back.specs.Folder.{index_file, small_file, IsOneQueue, IsShort, ReadsSame, IsImageOrWithout, IsWithoutStray};
+ghost use Rattle.cq_back.specs.Folder.{index_file, small_file, IsOneQueue, ReadsSame, IsImageOrWithout, IsWithoutStray};
 ghost use Rattle.cq_back.specs.Read.{IsSmallOf, gate_in, len_in, AreHeld, AreMatched, AreTaken, AreWithin, IfDamaged};
-ghost use Rattle.cq_back.specs.Found.{BreaksFolder, IsUnsound};
+ghost use Rattle.cq_back.specs.Found.{BreaksFolder};
 
 use crate::error::BackError;
 use crate::files::{INDEX, SMALL, open_index, open_small};
@@ -60,8 +60,8 @@ pub fn open_folder<D: Disk>(alloc: Global, disk: &mut D) -> Result<FoundQueue, B
     ensures bare_index { IfOk result (λ found. D.tells → IsOpen found.segment → len_of found.segment ≤ 128 → IsThere (D.files disk.new index_file) (λ f. f.most ≤ 128)) }
     ensures bare_small { IfOk result (λ found. D.tells → (store : SmallStore) → found.small ≡ Some store → store_len store ≤ 128 → IsThere (D.files disk.new small_file) (λ f. f.most ≤ 128)) }
     ensures damaged { IfErr result (λ error. IfDamaged error (λ name place found. D.tells → BreaksFolder (as_read (D.files disk.old)) name place found)) }
-    // Such a folder isn't sound, at least where its index has no more entries than a segment may have.
-    ensures refuses { IfErr result (λ error. IfDamaged error (λ name place found. D.tells → IsShort (D.files disk.old) → (lines : ℕ → List Message) → SoundBy (as_read (D.files disk.old)) lines → ⊥)) }
+    // Such a folder isn't sound.
+    ensures refuses { IfErr result (λ error. IfDamaged error (λ name place found. D.tells → IsUnsound (as_read (D.files disk.old)))) }
     // Without a fault an error comes before anything else than syncs and reads was done.
     ensures reads { IfErr result (λ error. D.tells → (error ≡ back_fault → ⊥) → ReadsSame (D.files disk.old) (D.files disk.new)) }
     ensures only_reads { IfErr result (λ error. D.tells → (error ≡ back_fault → ⊥) → LeavesOnly D.moment D.left disk.old disk.new (IsImage (D.files disk.old))) }

@@ -1,8 +1,9 @@
 -- Files whose contents have grown hold what they held, and more.
-use Rattle.std.proofs.Common.{◌≡◌, ◌≢◌, ◌⊎◌, inl, inr, ⊎_elim, ℕ, suc, ◌-◌, ◌≤◌, Bool, List, [], ◌∷◌, ◌++◌, map, refl, sym, ap, ◌∙◌, subst, append_assoc, arith}
+use Rattle.std.proofs.Common.{◌≡◌, ◌≢◌, ◌⊎◌, inl, inr, ⊎_elim, ℕ, suc, ◌+◌, ◌*◌, ◌-◌, ◌≤◌, Bool, List, [], ◌∷◌, ◌++◌, length, map, refl, sym, ap, ◌∙◌, subst, append_assoc, length-append, arith}
 use Rattle.std.specs.Prelude.{◌==◌, if◌then◌else◌}
 use Rattle.std.specs.List.{AllByRecursion}
 use Rattle.std.proofs.lemmas.Bool.{cases_eq, eq-eqb, ne_eqb}
+use Rattle.std.proofs.lemmas.List.{length-map}
 use Rattle.cq_disk.specs.declared.name.Kind.TheVariants.{Index, Small}
 use Rattle.cq_disk.specs.declared.name.Name.{Name}
 use Rattle.cq_entry.specs.declared.entry.Entry.{Entry}
@@ -12,13 +13,14 @@ use Rattle.cq_entry.specs.Entry.{entry_bytes, IsPresent}
 use Rattle.cq_small.specs.Record.{StandsIn}
 use Rattle.cq_small.specs.Store.{small_name}
 use Rattle.cq_small.proofs.Records.{record_kept}
+use Rattle.cq_index.specs.Codec.{entry_len, most_entries}
 use Rattle.cq_index.specs.Places.{index_name, entries_bytes}
 use Rattle.cq_journal.specs.declared.event.Message.{Message}
 use Rattle.cq_held.specs.Held.{AreEntries, present, Spot, spots, below, Zip, IsMessageOf, HoldsIn}
 use Rattle.cq_held.specs.Folder.{Grows}
 use Rattle.cq_held.specs.Standing.{IsLast}
 use Rattle.cq_held.proofs.Below.{below_same, below_both, zip_append, zip_wider}
-use Rattle.cq_held.proofs.Entries.{entries_append, entries_are, present_append}
+use Rattle.cq_held.proofs.Entries.{entries_append, entries_are, length-seen, present_append}
 use Rattle.cq_held.proofs.Images.{at_name}
 
 grows_each : (name : Name) (bytes : List ℕ) (F G : Name → List ℕ) → Grows name bytes F G → (n : Name) → (G n ≡ F n) ⊎ (G n ≡ F n ++ bytes)
@@ -40,6 +42,7 @@ pub same_index : (F G : Name → List ℕ) (q : ℕ) (l : List Message) → ((n 
 same_index F G q l same still h = record {
   seen = h.seen;
   entries = λ n. subst (λ (c : List ℕ). AreEntries c (h.seen n)) (sym (same n)) (h.entries n);
+  short = h.short;
   most = h.most;
   none = h.none;
   each = zip_wider (IsMessageOf F q) (IsMessageOf G q) (below (λ n. spots n (present (h.seen n))) h.most) l still h.each;
@@ -73,7 +76,7 @@ index_grows_other F G r n bytes grows q l other h = same_index F G q l
     (message_more F G q bytes (λ k. inl (grows.others (small_name q k) (small_is_not q k r n)))) h
 
 module _ (F G : Name → List ℕ) (q n : ℕ) (es : List Entry) (grows : Grows (index_name q n) (entries_bytes es) F G) (l ms : List Message) (h : HoldsIn F q l)
-    (last : IsLast F q n) (valid : AllByRecursion (λ e. IsPresent (entry_bytes e) e) es) (new : Zip (IsMessageOf F q) (spots n es) ms) where
+    (room : length (F (index_name q n)) + entry_len * length es ≤ entry_len * most_entries) (last : IsLast F q n) (valid : AllByRecursion (λ e. IsPresent (entry_bytes e) e) es) (new : Zip (IsMessageOf F q) (spots n es) ms) where
   abbrev seen' : ℕ → List Seen
   seen' k = if k == n then h.seen k ++ map Present es else h.seen k
 
@@ -125,12 +128,20 @@ module _ (F G : Name → List ℕ) (q n : ℕ) (es : List Entry) (grows : Grows 
       (subst (λ (c : List ℕ). AreEntries c (h.seen k)) (sym (grows.others (index_name q k) (λ e. other (ap (λ (m : Name). m.number) e)))) (h.entries k)))
       (cases_eq k n)
 
+  short_next : (k : ℕ) → length (seen' k) ≤ most_entries
+  short_next k = ⊎_elim
+      (λ here. let long = length-append (h.seen n) (map Present es) in let added = length-map es Present in let bytes = length-seen (F (index_name q n)) (h.seen n) (h.entries n) in
+      subst (λ (j : ℕ). length (seen' j) ≤ most_entries) (sym here) (subst (λ (s : List Seen). length s ≤ most_entries) (sym at_n) (omega (arith, long, added, bytes, room))))
+      (λ other. subst (λ (s : List Seen). length s ≤ most_entries) (sym (off_n k other)) (h.short k))
+      (cases_eq k n)
+
   -- the queue's greatest segment has got entries
   pub index_grows : HoldsIn G q (l ++ ms)
   unfolding front next
   index_grows = record {
     seen = seen';
     entries = entries_next;
+    short = short_next;
     most = suc n;
     none = λ k ge. ap present (off_n k (λ e. omega (arith, e, ge))) ∙ above_none k ge;
     each = subst (λ (ss : List Spot). Zip (IsMessageOf G q) ss (l ++ ms)) (sym all_next)

@@ -29,7 +29,7 @@ use Rattle.cq_held.specs.Survives.{SurvivesIn, Survives}
 use Rattle.cq_held.specs.Steady.{AreSound, SoundBy, Agrees, Steady, Agreed}
 use Rattle.cq_held.specs.Standing.{StillHolds, Standing, ComeNext, joined, IsSafe, Passed, confirm_at, confirm_all, IsQuiet}
 use Rattle.cq_held.specs.Laws.{opening, KeepsStanding, KeepsSteady}
-use Rattle.cq_held.proofs.Images.{grown_grows, step_both, still_image, settled_has, append_leaves, added_still, create_leaves, made_still, bare_still}
+use Rattle.cq_held.proofs.Images.{grown_grows, reads_image, step_both, still_image, settled_has, append_leaves, added_still, create_leaves, made_still, bare_still}
 use Rattle.cq_held.proofs.Growth.{small_grows, index_grows, index_grows_other}
 use Rattle.cq_held.proofs.Sublists.{sublist_self}
 use Rattle.cq_held.proofs.Bodies.{survivors_sound}
@@ -70,7 +70,7 @@ module _ (F : Name → List ℕ) (past : List Entry) (lines : ℕ → List Messa
     holds_then q = ⊎_elim
         (λ here. subst (λ (r : ℕ). HoldsIn G r (joined queue ms lines r)) (sym here)
         (subst (HoldsIn G queue) (sym at_queue)
-        (index_grows F G queue number entries (grown_grows F (index_name queue number) (entries_bytes entries)) (lines queue) ms (agreed.holds queue) next.last next.valid next.placed)))
+        (index_grows F G queue number entries (grown_grows F (index_name queue number) (entries_bytes entries)) (lines queue) ms (agreed.holds queue) next.room next.last next.valid next.placed)))
         (λ other. subst (HoldsIn G q) (sym (off_queue q other))
         (index_grows_other F G queue number (entries_bytes entries) (grown_grows F (index_name queue number) (entries_bytes entries)) q (lines q) other (agreed.holds q)))
         (cases_eq q queue)
@@ -106,7 +106,7 @@ opened_stands files F stamp ls still holds are = record {
 }
 
 bare_holds : Holds (λ n. []) (λ q. [])
-bare_holds q = record { seen = λ n. []; entries = λ n. refl; most = 0; none = λ n ge. refl; each = tt }
+bare_holds q = record { seen = λ n. []; entries = λ n. refl; short = λ n. omega arith; most = 0; none = λ n ge. refl; each = tt }
 
 added_stands : (old new : Name → Option File) (F : Name → List ℕ) (name : Name) (bytes : List ℕ) → ((n : Name) (f : File) → old n ≡ Some f → IsFileImage f f.reads) → HasAdded name bytes old new → Still old F → Still new (grown F name bytes)
 added_stands old new F name bytes readable added still =
@@ -205,10 +205,6 @@ module _ {D : Type 0} (moment : D → ℕ) (left : D → ℕ → ℕ → Image �
         (λ shows. agrees image (grown s.contents (index_name queue number) (entries_bytes entries)) past (joined queue ms lines) shows (entries_join s.contents past lines s.agreed queue number entries ms legal next))
         (append_leaves (files old) s.contents s.still (index_name queue number) (entries_bytes entries) image is)) run
 
-  readable_image : (slot : Option File) → ((f : File) → slot ≡ Some f → IsFileImage f f.reads) → IsImageOf slot (bytes_in slot)
-  readable_image None reads = tt
-  readable_image (Some f) reads = reads f refl
-
   gated_among : (name : Name) (bytes : List ℕ) (g : File) (before : Option File) (slot : Option (List ℕ)) → slot ≡ Some g.reads → AmongBytes slot (From before (KeepsOrAdds (kind_byte name.kind) bytes)) → IsGated (kind_byte name.kind) g.reads
   gated_among name bytes g None None is none = absurd none
   gated_among name bytes g (Some f) None is none = absurd none
@@ -217,7 +213,7 @@ module _ {D : Type 0} (moment : D → ℕ) (left : D → ℕ → ℕ → Image �
 
   module _ (old new : D) (name : Name) (bytes : List ℕ) (run : LeavesOnly moment left old new (MayHaveAdded name bytes (files old))) where
     reads_now : MayHaveAdded name bytes (files old) (as_read (files new))
-    reads_now = run.each (as_read (files new)) (each new (moment old) (as_read (files new)) run.later (λ n. readable_image (files new n) (readable new n)))
+    reads_now = run.each (as_read (files new)) (each new (moment old) (as_read (files new)) run.later (reads_image (files new) (readable new)))
 
     added_run : Step (files old name) (files new name) (λ f g. content g.reads ≡ content f.reads ++ bytes) → Step (files old name) (files new name) (λ f g. g ≡ settled g.reads) → ((n : Name) → n ≢ name → files new n ≡ files old n) → HasAdded name bytes (files old) (files new)
     added_run more all others = record {

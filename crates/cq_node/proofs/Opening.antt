@@ -21,7 +21,7 @@ use Rattle.cq_journal.specs.declared.event.Message.{Message}
 use Rattle.cq_journal.specs.declared.lines.Line.{Line}
 use Rattle.cq_journal.specs.History.{line, opened_in}
 use Rattle.cq_journal.specs.Legal.{AreLines}
-use Rattle.cq_held.specs.Held.{Zip, IsMessageOf, as_read, bytes_in, contents_of, spots}
+use Rattle.cq_held.specs.Held.{Zip, IsMessageOf, as_read, contents_of, spots}
 use Rattle.cq_held.specs.Folder.{IsSettled}
 use Rattle.cq_held.specs.Steady.{Steady}
 use Rattle.cq_held.specs.Standing.{Standing, StillHolds}
@@ -31,10 +31,9 @@ use Rattle.cq_held.proofs.Kept.{keeps_standing, keeps_steady}
 use Rattle.cq_back.specs.declared.error.BackError.{BackError}
 use Rattle.cq_back.specs.declared.error.BackError.TheVariants.{Fault, Memory, Damaged}
 use Rattle.cq_back.specs.declared.found.HeldEntry.{HeldEntry}
-use Rattle.cq_back.specs.Folder.{index_file, small_file, IsOneQueue, IsShort}
+use Rattle.cq_back.specs.Folder.{index_file, small_file, IsOneQueue}
 use Rattle.cq_back.specs.Read.{messages, entries_of, len_in, AreHeld, AreMatched, IfDamaged}
 use Rattle.cq_back.proofs.Reading.{opened_messages, opened_none}
-use Rattle.cq_back.proofs.Sounds.{content_bytes}
 use Rattle.cq_core.specs.Stored.{IsSpotOf, AreAt, ids_of, stored, content_in}
 use Rattle.cq_node.specs.Agreeing.{stored_lines}
 use Rattle.cq_node.specs.Files.{HasNoOther, HasFew, small_length}
@@ -92,14 +91,6 @@ pub one_queue : (files : Name → Option File) → HasNoOther files → IsOneQue
 one_queue files alone = at_name (λ n. HasFile (files n) → (n ≡ index_file) ⊎ (n ≡ small_file)) index_file (λ has. inl refl) (λ n not_index.
     at_name (λ m. m ≢ index_file → HasFile (files m) → (m ≡ index_file) ⊎ (m ≡ small_file)) small_file (λ other has. inr refl)
     (λ m not_small other has. absurd (subst HasFile (alone m not_small other) has)) n not_index)
-
--- the files as they read are one of the images
-pub is_short : (files : Name → Option File) → ((n : Name) (f : File) → files n ≡ Some f → IsFileImage f f.reads) → HasFew (files index_file) 4096 → IsShort files
-is_short files readable few = let bound = few (bytes_in (files index_file)) (image (files index_file) refl) in omega (arith, bound, ap length (content_bytes (bytes_in (files index_file))))
-  where
-    image : (slot : Option File) → files index_file ≡ slot → IsImageOf slot (bytes_in slot)
-    image None is = tt
-    image (Some f) is = readable index_file f is
 
 pub broken_to : (error : BackError) (P Q : Name → ℕ → ℕ → Type 0) → ((name : Name) (place found : ℕ) → P name place found → Q name place found) → IfDamaged error P → IfBroken (told_of error) Q
 broken_to Fault P Q step has = tt

@@ -15,10 +15,10 @@ ghost use Rattle.cq_journal.specs.History.{line};
 ghost use Rattle.cq_journal.specs.Legal.{Legal, newest};
 ghost use Rattle.cq_journal.specs.Asks.{asks, replies};
 ghost use Rattle.cq_held.specs.Held.{as_read, contents_of, Held};
-ghost use Rattle.cq_held.specs.Steady.{SoundBy, Steady, SteadyWhere-prop};
+ghost use Rattle.cq_held.specs.Steady.{IsUnsound, SoundBy, Steady, SteadyWhere-prop};
 ghost use Rattle.cq_held.specs.Standing.{Standing, StillHolds};
 ghost use Rattle.cq_back.specs.Folder.{ReadsSame};
-ghost use Rattle.cq_back.specs.Found.{BreaksFolder, IsUnsound};
+ghost use Rattle.cq_back.specs.Found.{BreaksFolder};
 ghost use Rattle.cq_core.specs.Answers.{bodiless};
 ghost use Rattle.cq_core.specs.Core.{IsWhole, TakesNextIds};
 ghost use Rattle.cq_core.specs.Found.{Finds};
@@ -123,7 +123,7 @@ impl<D: Disk> Node<D> {
         ensures running { IfOk result (λ node. (node.store.halted ≡ false) × (node.config ≡ config)) }
         ensures inbox { IfErr result (λ back. back.inbox ≡ inbox) }
         ensures damaged { IfErr result (λ back. IfBroken back.error (λ name place found. D.tells → BreaksFolder (as_read (D.files disk)) name place found)) }
-        ensures refuses { IfErr result (λ back. IfBroken back.error (λ name place found. D.tells → HasFew (D.files disk (index_name 0 0)) 4096 → (lines : ℕ → List Message) → SoundBy (as_read (D.files disk)) lines → ⊥)) }
+        ensures refuses { IfErr result (λ back. IfBroken back.error (λ name place found. D.tells → IsUnsound (as_read (D.files disk)))) }
         // Where a rule is broken, nothing else than syncs and reads was done.
         ensures reads { IfErr result (λ back. IfBroken back.error (λ name place found. D.tells → ReadsSame (D.files disk) (D.files back.disk))) }
         ensures only_reads { IfErr result (λ back. IfBroken back.error (λ name place found. D.tells → LeavesOnly D.moment D.left disk back.disk (IsImage (D.files disk)))) }
@@ -457,7 +457,7 @@ fn open_queue<D: Disk>(alloc: Global, disk: &mut D) -> Result<Opened, OpenError>
     ensures few { IfOk result (λ found. D.tells → HasFew (D.files disk.new (index_name 0 0)) (count_of found.segment)) }
     ensures alone { D.tells → HasNoOther (D.files disk.new) }
     ensures damaged { IfErr result (λ error. IfBroken error (λ name place found. D.tells → BreaksFolder (as_read (D.files disk.old)) name place found)) }
-    ensures refuses { IfErr result (λ error. IfBroken error (λ name place found. D.tells → HasFew (D.files disk.old (index_name 0 0)) 4096 → (lines : ℕ → List Message) → SoundBy (as_read (D.files disk.old)) lines → ⊥)) }
+    ensures refuses { IfErr result (λ error. IfBroken error (λ name place found. D.tells → IsUnsound (as_read (D.files disk.old)))) }
     ensures reads { IfErr result (λ error. IfBroken error (λ name place found. D.tells → ReadsSame (D.files disk.old) (D.files disk.new))) }
     ensures only_reads { IfErr result (λ error. IfBroken error (λ name place found. D.tells → LeavesOnly D.moment D.left disk.old disk.new (IsImage (D.files disk.old)))) }
     ensures unsound { IfErr result (λ error. D.tells → IsUnsound (as_read (D.files disk.old)) → LeavesOnly D.moment D.left disk.old disk.new (IsImage (D.files disk.old))) }

@@ -164,12 +164,3 @@ begun m old now added opened grown = omega (arith, ap length grown, length-appen
 pub demand_fresh : (m : ℕ) (journal : List Entry) (w : Handed) (after : List After) (rest : List Request) → IsFresh m journal w after → demand journal w rest ≡ rest
 demand_fresh m journal w after rest fresh = ap (λ l. l ++ w.requests ++ rest) (opening_asks m journal fresh.opened) ∙ ap (λ (v : Handed). v.requests ++ rest) fresh.none_waits
 
--- what holds of an answer that is Ok
-pub at_ok : {T E P : Type 0} {v : T} (result : Result T E) → result ≡ Ok v → OnOk result P → P
-at_ok (Ok v) is has = has
-at_ok (Err e) is has = cc
-
--- what holds of an answer that is no error
-pub no_error : {T E P : Type 0} (result : Result T E) → is_err result ≡ false → OnOk result P → P
-no_error (Ok v) none has = has
-no_error (Err e) none has = absurd (false≢true (sym none))

@@ -2,8 +2,6 @@
 use Rattle.std.proofs.Common.{◌≡◌, ◌≢◌, ℕ, ◌+◌, ◌*◌, ◌≤◌, List, [], ◌∷◌, length, Option, Some, None, true, false, refl, sym, ap, ◌∙◌, subst, arith, ⊎_elim}
 use Rattle.std.proofs.Math.Logic.{∥∥₁_elim, ∥∥₁_map}
 use mathlib.Core.HLevel.{⊥_prop}
-use Rattle.std.specs.Prelude.{Result, Ok, Err, OnOk}
-use Rattle.std.specs.Result.{is_err}
 use Rattle.std.specs.Option.{option_map}
 use Rattle.std.specs.List.{list_all}
 use Rattle.cq_disk.specs.declared.name.Name.{Name}
@@ -16,8 +14,9 @@ use Rattle.cq_disk.specs.Rose.{Rose}
 use Rattle.cq_held.specs.Folder.{HasContent, IsSettled}
 use Rattle.cq_held.specs.Held.{bytes_in, as_read, content_of, contents_of, Held}
 use Rattle.cq_held.specs.Standing.{StillHolds}
-use Rattle.cq_held.specs.Steady.{SoundBy, Sound, AgreesBy, Agrees}
+use Rattle.cq_held.specs.Steady.{SoundBy, Sound, IsUnsound, AgreesBy, Agrees}
 use Rattle.cq_held.specs.Laws.{opening}
+use Rattle.cq_held.proofs.Images.{reads_image}
 use Rattle.cq_held.proofs.Kept.{at_rest, holding, keeps_standing}
 use Rattle.cq_held.proofs.One.{sound_holds_once}
 use Rattle.cq_inbox.specs.declared.request.Request.{Request}
@@ -38,11 +37,6 @@ use Rattle.cq_replay.specs.declared.playing.Ending.TheVariants as ending
 use Rattle.cq_replay.specs.Between.{IsReady}
 use Rattle.cq_replay.specs.Played.{Ended, InSession}
 
--- what holds at Ok, of an answer that is no error
-pub no_error : {T E P : Type 0} (result : Result T E) → is_err result ≡ false → OnOk result P → P
-no_error (Ok v) not has = has
-no_error (Err e) not has = (let clash : true ≡ false = not in cc)
-
 -- ---- files as they read
 
 slot_same : (slot : Option File) → option_map (λ f. f.reads) slot ≡ bytes_in slot
@@ -51,14 +45,6 @@ slot_same (Some f) = refl
 
 pub image_as_read : (files : Name → Option File) → image_of files ≡ as_read files
 image_as_read files = λ i n. slot_same (files n) i
-
-reads_slot : (slot : Option File) → ((f : File) → slot ≡ Some f → IsFileImage f f.reads) → IsImageOf slot (bytes_in slot)
-reads_slot None readable = tt
-reads_slot (Some f) readable = readable f refl
-
--- what files read is one of their images
-pub reads_image : (files : Name → Option File) → ((n : Name) (f : File) → files n ≡ Some f → IsFileImage f f.reads) → IsImage files (as_read files)
-reads_image files readable n = reads_slot (files n) (readable n)
 
 -- ---- an opening
 
@@ -84,11 +70,11 @@ room_after files fuse left rest ready opened m journal waiting reads are is none
     omega (arith, found_few files ready.count opened reads ready.few are, ready.room, ap publishes (opened_asks m journal is), ap (λ (w : Handed). publishes w.requests) none, ap publishes same)
 
 -- a folder that can be opened isn't broken
-pub not_broken : (files : Name → Option File) (fuse : Option ℕ) (left : List Request) → IsReady files fuse left → (told : Type 0) → told → (e : OpenError) → IfBroken e (λ name place found. told → HasFew (files (index_name 0 0)) 4096 → (lines : ℕ → List Message) → SoundBy (as_read files) lines → ⊥)
+pub not_broken : (files : Name → Option File) (fuse : Option ℕ) (left : List Request) → IsReady files fuse left → (told : Type 0) → told → (e : OpenError) → IfBroken e (λ name place found. told → IsUnsound (as_read files))
     → IfBroken e (λ name place found. ⊥)
 not_broken files fuse left ready told tells error.Fault refuses = tt
 not_broken files fuse left ready told tells error.Memory refuses = tt
-not_broken files fuse left ready told tells (error.Damaged name place found) refuses = ∥∥₁_elim ready.sound ⊥_prop (λ s. refuses tells (λ c is. omega (arith, ready.few c is, ready.room)) s.0 s.1)
+not_broken files fuse left ready told tells (error.Damaged name place found) refuses = ∥∥₁_elim ready.sound ⊥_prop (λ s. refuses tells s.0 s.1)
 
 pub unfused : (fuse : Option ℕ) (moment : ℕ) → fuse ≡ None → BeforeFuse fuse moment
 unfused fuse moment none at is = (let clash : None ≡ Some at = sym none ∙ is in cc)

@@ -21,7 +21,7 @@ returns-clause-meanwhile g c = λ told lines holds.
 
 pub returns-clause-refuses : goal.returns-clause-refuses
 returns-clause-refuses g c = if_err c.open_queue.result _ _
-    (λ error broken. damaged_to error _ _ (λ name place found b told short lines. not_sound (as_read (g.D.Disk.files c.args.disk.now)) lines name place found short (b told)) broken) c.open_queue.ensures.damaged
+    (λ error broken. damaged_to error _ _ (λ name place found b told lines. not_sound (as_read (g.D.Disk.files c.args.disk.now)) lines name place found (b told)) broken) c.open_queue.ensures.damaged
 
 pub returns-clause-lines : goal.returns-clause-lines
 returns-clause-lines g c = if_ok c.open_queue.result _ _ (λ found taken. lines_taken (count_of found.segment) found.held.items found.lines taken) c.open_queue.ensures.taken

@@ -7,22 +7,21 @@ use Rattle.cq_journal.specs.declared.event.Message.{Message}
 use Rattle.cq_journal.specs.History.{opened_in}
 use Rattle.cq_journal.specs.Legal.{delivered}
 use Rattle.cq_held.specs.Held.{Zip, as_read}
-use Rattle.cq_held.specs.Steady.{SoundBy}
+use Rattle.cq_held.specs.Steady.{IsUnsound, SoundBy}
 use Rattle.cq_held.specs.Laws.{opening}
 use Rattle.cq_back.specs.declared.found.HeldEntry.{HeldEntry}
 use Rattle.cq_back.specs.Found.{BreaksFolder}
 use Rattle.cq_core.specs.declared.queue.Spot.{Spot}
 use Rattle.cq_core.specs.Stored.{AreAt, IsSpotOf, content_in, stored}
-use Rattle.cq_node.specs.Files.{HasFew, small_length}
+use Rattle.cq_node.specs.Files.{small_length}
 use Rattle.cq_node.specs.Opening.{AreWithin, IfBroken, spot_of}
-use Rattle.cq_node.proofs.Opening.{spots_found, ids_found, spots_stand, spots_within, one_queue, is_short, broken_to, few_found, line_opened, found_stands, found_steady}
+use Rattle.cq_node.proofs.Opening.{spots_found, ids_found, spots_stand, spots_within, one_queue, broken_to, few_found, line_opened, found_stands, found_steady}
 use Rattle.cq_node.proofs.node.open_queue.Goals as goal
 
 pub returns-in-Err-clause-refuses : goal.returns-in-Err-clause-refuses
 returns-in-Err-clause-refuses g c =
-    let files = g.D.Disk.files c.args.disk.now in
-    subst (λ e. IfBroken e (λ name place found. g.D.Disk.tells → HasFew (files (index_name 0 0)) 4096 → (lines : ℕ → List Message) → SoundBy (as_read files) lines → ⊥)) (sym c.as_open_error.ensures)
-    (broken_to c.in-Err.error _ _ (λ name place found refused told few. refused told (is_short files (g.met.D.Disk.reads_left told c.args.disk.now) few)) c.in-Err.ensures.refuses)
+    subst (λ e. IfBroken e (λ name place found. g.D.Disk.tells → IsUnsound (as_read (g.D.Disk.files c.args.disk.now)))) (sym c.as_open_error.ensures)
+    (broken_to c.in-Err.error _ _ (λ name place found refused. refused) c.in-Err.ensures.refuses)
 
 pub open-requires-clause-places : goal.open-requires-clause-places
 open-requires-clause-places g c =

@@ -6,7 +6,9 @@ use Rattle.cq_inbox.specs.Requests.{publishes}
 use Rattle.cq_index.specs.Places.{index_name}
 use Rattle.cq_node.specs.Files.{HasFew}
 use Rattle.cq_node.specs.Waiting.{is_servable}
-use Rattle.cq_replay.proofs.Ready.{no_error, image_as_read, reads_image, ready_again}
+use Rattle.cq_held.proofs.Images.{reads_image}
+use Rattle.cq_node.proofs.Writes.{no_error}
+use Rattle.cq_replay.proofs.Ready.{image_as_read, ready_again}
 use Rattle.cq_replay.proofs.playing.restart.Goals as goal
 
 pub returns-in-Ok-clause-ready : goal.returns-in-Ok-clause-ready

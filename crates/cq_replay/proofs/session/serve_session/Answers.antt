@@ -8,7 +8,8 @@ use Rattle.cq_journal.specs.Confirms.{AreConfirmed}
 use Rattle.cq_journal.specs.History.{line}
 use Rattle.cq_node.specs.Files.{HasFew}
 use Rattle.cq_replay.specs.Done.{DoesWords}
-use Rattle.cq_replay.proofs.Moves.{at_ok, begun}
+use Rattle.cq_replay.proofs.Endings.{at_ok}
+use Rattle.cq_replay.proofs.Moves.{begun}
 use Rattle.cq_replay.proofs.Served.{asked_first, asked_all, agrees_now, opened_same, if_ok}
 use Rattle.cq_replay.proofs.session.serve_session.Goals as goal
 

@@ -27,6 +27,7 @@ use Rattle.cq_core.proofs.Stands.{spots-match}
 use Rattle.cq_node.specs.Agreeing.{stored_lines, WillJoin}
 use Rattle.cq_node.specs.Files.{small_end, small_length, small_calls, index_calls, HasFew}
 use Rattle.cq_node.proofs.Agreeing.{laws}
+use Rattle.cq_node.proofs.Few.{has_room}
 use Rattle.cq_node.proofs.Answered.{few_upto, all_drop, confirmed_all, placed_all, within_all, places_now, calls_at}
 use Rattle.cq_node.proofs.Steadying.{all_lines, all_safe, come, now_lines, stands_held}
 use Rattle.cq_node.proofs.Writes.{no_error, an_error, since_earlier, batch_long}
@@ -256,8 +257,12 @@ invariant_of-self-then-is_err-3-clause-steady g c = λ told.
     let new = c.commit-written.new.self.disk in
     let is : IsBatch base (unstored journal) c.in-Ok.batch = subst (λ l. IsBatch base l c.in-Ok.batch) c.undecided-2.ensures.same c.in-Ok.ensures in
     let stands = subst (λ k. ∥ Standing (d.files k) journal lines ∥₁) (sym same.0) (a.standing c.if-self.false told) in
+    let long : length c.deref.result.now ≡ length (unstored journal) = ap length (c.deref.ensures.value ∙ is.entries) ∙ count-entries base (unstored journal) in
+    let fit : a.opened + confirmed journal + length c.deref.result.now ≤ 4096 = omega (arith, long, ap length c.undecided-2.ensures.same, c.undecided-2.ensures.count, a.few, published-asked journal) in
+    let room = has_room (d.files disk) (index_name 0 0) (a.opened + confirmed journal) (length c.deref.result.now) (g.met.D.Disk.reads_left told disk)
+    (subst (λ k. HasFew (d.files k (index_name 0 0)) (a.opened + confirmed journal)) (sym same.0) (a.short c.if-self.false told)) fit in
     let will = subst (λ b. WillJoin (d.files disk) b c.in-Ok.batch.records journal lines c.deref.result.now (unstored journal)) (c.base-base.ensures.end ∙ ap small_end (sym same.2))
-    (come journal (d.files disk) base c.in-Ok.batch c.deref.result.now (c.reserve-else-is_err.new.self.alone told) c.journal.ensures.unsettled is c.deref.ensures.value) in
+    (come journal (d.files disk) base c.in-Ok.batch c.deref.result.now (c.reserve-else-is_err.new.self.alone told) room c.journal.ensures.unsettled is c.deref.ensures.value) in
     subst (Steady (d.left new) (d.moment new)) (sym c.reserve.ensures.entries) (∥∥₁_elim stands (Steady-prop (d.left new) (d.moment new) journal) (λ s.
     c.commit-written.ensures.steady told journal lines (unstored journal) c.journal.ensures.legal s will (subst (λ k. Steady (d.left k) (d.moment k) journal) (sym same.0) (a.steady told))))
 
@@ -276,8 +281,12 @@ invariant_of-self-3-clause-standing g c = λ running told.
     let lines = stored_lines journal in
     let disk = c.reserve-else-is_err.new.self.disk in
     let stands = subst (λ k. ∥ Standing (d.files k) journal lines ∥₁) (sym same.0) (a.standing c.if-self.false told) in
+    let long : length c.deref.result.now ≡ length (unstored journal) = ap length (c.deref.ensures.value ∙ is.entries) ∙ count-entries base (unstored journal) in
+    let fit : a.opened + confirmed journal + length c.deref.result.now ≤ 4096 = omega (arith, long, ap length c.undecided-2.ensures.same, c.undecided-2.ensures.count, a.few, published-asked journal) in
+    let room = has_room (d.files disk) (index_name 0 0) (a.opened + confirmed journal) (length c.deref.result.now) (g.met.D.Disk.reads_left told disk)
+    (subst (λ k. HasFew (d.files k (index_name 0 0)) (a.opened + confirmed journal)) (sym same.0) (a.short c.if-self.false told)) fit in
     let will = subst (λ b. WillJoin (d.files disk) b c.in-Ok.batch.records journal lines c.deref.result.now (unstored journal)) (c.base-base.ensures.end ∙ ap small_end (sym same.2))
-    (come journal (d.files disk) base c.in-Ok.batch c.deref.result.now (c.reserve-else-is_err.new.self.alone told) c.journal.ensures.unsettled is c.deref.ensures.value) in
+    (come journal (d.files disk) base c.in-Ok.batch c.deref.result.now (c.reserve-else-is_err.new.self.alone told) room c.journal.ensures.unsettled is c.deref.ensures.value) in
     let passed : now ≡ confirm_all c.moment-stamp.result (passes (confirmed journal) (unstored journal)) journal = c.confirm_all.ensures.exact ∙ ap (λ l. confirm_all c.moment-stamp.result (passes (confirmed l) (unstored l)) l) c.reserve.ensures.entries in
     let joins = no_error c.commit-written.result (sym c.is_err-2.ensures.value ∙ c.if-is_err-3.false) c.commit-written.ensures.stands in
     subst (λ l. ∥ Standing (d.files c.commit-written.new.self.disk) now l ∥₁) (now_lines journal c.journal.ensures.alone now all)
@@ -300,8 +309,12 @@ invariant_of-self-3-clause-steady g c = λ told.
     let lines = stored_lines journal in
     let disk = c.reserve-else-is_err.new.self.disk in
     let stands = subst (λ k. ∥ Standing (d.files k) journal lines ∥₁) (sym same.0) (a.standing c.if-self.false told) in
+    let long : length c.deref.result.now ≡ length (unstored journal) = ap length (c.deref.ensures.value ∙ is.entries) ∙ count-entries base (unstored journal) in
+    let fit : a.opened + confirmed journal + length c.deref.result.now ≤ 4096 = omega (arith, long, ap length c.undecided-2.ensures.same, c.undecided-2.ensures.count, a.few, published-asked journal) in
+    let room = has_room (d.files disk) (index_name 0 0) (a.opened + confirmed journal) (length c.deref.result.now) (g.met.D.Disk.reads_left told disk)
+    (subst (λ k. HasFew (d.files k (index_name 0 0)) (a.opened + confirmed journal)) (sym same.0) (a.short c.if-self.false told)) fit in
     let will = subst (λ b. WillJoin (d.files disk) b c.in-Ok.batch.records journal lines c.deref.result.now (unstored journal)) (c.base-base.ensures.end ∙ ap small_end (sym same.2))
-    (come journal (d.files disk) base c.in-Ok.batch c.deref.result.now (c.reserve-else-is_err.new.self.alone told) c.journal.ensures.unsettled is c.deref.ensures.value) in
+    (come journal (d.files disk) base c.in-Ok.batch c.deref.result.now (c.reserve-else-is_err.new.self.alone told) room c.journal.ensures.unsettled is c.deref.ensures.value) in
     let new = c.commit-written.new.self.disk in
     let ps = passes (confirmed journal) (unstored journal) in
     let passed : now ≡ confirm_all (d.moment new) ps journal = c.confirm_all.ensures.exact ∙ ap (λ l. confirm_all c.moment-stamp.result (passes (confirmed l) (unstored l)) l) c.reserve.ensures.entries ∙ ap (λ stamp. confirm_all stamp ps journal) c.moment-stamp.ensures in

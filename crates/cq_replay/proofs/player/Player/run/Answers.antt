@@ -6,7 +6,8 @@ use Rattle.cq_node.specs.Waiting.{Handed}
 use Rattle.cq_script.specs.declared.script.StepWord.TheVariants.{Client}
 use Rattle.cq_replay.specs.Done.{standing}
 use Rattle.cq_replay.specs.Running.{WordDid}
-use Rattle.cq_replay.proofs.Moves.{then, goes_next, demand_fresh, begun, no_error}
+use Rattle.cq_node.proofs.Writes.{no_error}
+use Rattle.cq_replay.proofs.Moves.{then, goes_next, demand_fresh, begun}
 use Rattle.cq_replay.proofs.WordLaws.{does, one_more, none_done, plain_at}
 use Rattle.cq_replay.proofs.player.Player.run.Goals as goal
 
