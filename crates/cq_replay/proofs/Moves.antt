@@ -1,8 +1,7 @@
 -- How the entries and the client's requests move on.
 use Rattle.std.proofs.Common.{◌≡◌, ℕ, ◌+◌, ◌<◌, ◌≤◌, List, [], ◌∷◌, ◌++◌, length, Result, Ok, Err, OnOk, refl, sym, ap, ◌∙◌, arith, append_assoc, length-append, Bool, true, false, cond, Option}
-use Rattle.std.specs.Prelude.{◌==◌, map, is_err}
+use Rattle.std.specs.Prelude.{◌==◌, map}
 use Rattle.std.specs.List.{AllByRecursion}
-use Rattle.std.proofs.lemmas.Bool.{false≢true}
 use Rattle.std.proofs.lemmas.List.{length-map}
 use Rattle.cq_journal.specs.declared.event.Event.{Event}
 use Rattle.cq_journal.specs.declared.event.Event.TheVariants as event
@@ -163,4 +162,3 @@ begun m old now added opened grown = omega (arith, ap length grown, length-appen
 -- what a session that has only begun has to serve
 pub demand_fresh : (m : ℕ) (journal : List Entry) (w : Handed) (after : List After) (rest : List Request) → IsFresh m journal w after → demand journal w rest ≡ rest
 demand_fresh m journal w after rest fresh = ap (λ l. l ++ w.requests ++ rest) (opening_asks m journal fresh.opened) ∙ ap (λ (v : Handed). v.requests ++ rest) fresh.none_waits
-

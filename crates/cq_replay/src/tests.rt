@@ -318,9 +318,16 @@ fn is_file(name: Name, kind: Kind) -> bool
     name.kind == kind && name.queue == 0 && name.number == 0
 }
 
-/// A client that publishes a message and gets one, with this schedule.
-fn hello(alloc: Global, schedule: &str) -> Result<String, AllocError> {
-    format!(in alloc; "client 0\npublish 0 text hello\nget 0\nschedule {schedule}\n")
+/// The call with a client that publishes a message and gets one, with this schedule.
+fn scheduled(alloc: Global, schedule: &str) -> Result<Row, AllocError> {
+    let script = format!(in alloc; "client 0\npublish 0 text hello\nget 0\nschedule {schedule}\n")?;
+    replayed(alloc, &["replay"], script.as_bytes(), &[], &[], &[])
+}
+
+/// The same, where the commit stops after so many device calls, and the crash leaves the image of this number.
+fn stopped(alloc: Global, image: u32, calls: u32) -> Result<Row, AllocError> {
+    let schedule = format!(in alloc; "c0 t0 !{image}/{calls}:w c0 t0")?;
+    scheduled(alloc, &schedule)
 }
 
 const CONFIRMED: &[u8] =
@@ -348,8 +355,7 @@ fn a_crash_begins_the_next_session(rt: HostRuntime) -> Result<(), Fail> {
         ("c0 t0 !2/15:w c0 t0", LOST, Some(0)),
     ];
     for (schedule, text, selector) in rows {
-        let script = hello(alloc, schedule)?;
-        let row = replayed(alloc, &["replay"], script.as_bytes(), &[], &[], &[])?;
+        let row = scheduled(alloc, schedule)?;
         assert_eq!(rt; row.status, Status::Ok);
         assert_eq!(rt; row.text.as_slice(), text);
         let index = row.disk.bytes(file(Kind::Index));
@@ -364,9 +370,7 @@ fn a_stop_at_each_call_leaves_the_message_or_none(rt: HostRuntime) -> Result<(),
     let alloc = rt.alloc();
     for image in [0, 1, 2, 3, 57, 257, 258, 259, 260, 261] {
         for calls in 0..=17 {
-            let schedule = format!(in alloc; "c0 t0 !{image}/{calls}:w c0 t0")?;
-            let script = hello(alloc, &schedule)?;
-            let row = replayed(alloc, &["replay"], script.as_bytes(), &[], &[], &[])?;
+            let row = stopped(alloc, image, calls)?;
             assert_eq!(rt; row.status, Status::Ok);
             let text = row.text.as_slice();
             assert_eq!(rt; text == CONFIRMED, calls >= 16);

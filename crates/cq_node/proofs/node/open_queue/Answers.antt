@@ -3,7 +3,6 @@ use Rattle.cq_small.specs.Store.{small_name}
 use Rattle.cq_index.proofs.Known.{filed}
 use Rattle.cq_index.specs.Places.{index_name}
 use Rattle.cq_journal.specs.declared.event.Entry.{Entry}
-use Rattle.cq_journal.specs.declared.event.Message.{Message}
 use Rattle.cq_journal.specs.History.{opened_in}
 use Rattle.cq_journal.specs.Legal.{delivered}
 use Rattle.cq_held.specs.Held.{Zip, as_read}

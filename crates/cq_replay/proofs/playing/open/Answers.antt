@@ -1,8 +1,4 @@
-use Rattle.std.proofs.Common.{◌≡◌, ℕ, List, refl}
-use Rattle.cq_disk.specs.declared.disk.OpenError.TheVariants as error
-use Rattle.cq_disk.specs.Call.{BeforeFuse}
-use Rattle.cq_held.specs.Held.{as_read}
-use Rattle.cq_node.specs.Opening.{IfBroken}
+use Rattle.std.proofs.Common.{refl}
 use Rattle.cq_held.proofs.Images.{reads_image}
 use Rattle.cq_replay.proofs.Ready.{room_after, not_broken, ended_unopened, not_in_session, agrees_same, agrees_then, unfused}
 use Rattle.cq_replay.proofs.playing.open.Goals as goal
