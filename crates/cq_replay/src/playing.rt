@@ -296,6 +296,7 @@ fn open<C: Crashable>(
     ensures running { IfOk result (λ player. (player.node.store.halted ≡ false) × (C.fuse player.node.store.disk ≡ None)) }
     ensures fresh { IfOk result (λ player. IsFresh (C.moment player.node.store.disk) player.node.core.entries player.node.waiting player.after.items) }
     ensures rest { IfOk result (λ player. player.rest.items ≡ rest.items) }
+    ensures numbered { IfOk result (λ player. player.node.config.session ≡ number) }
     ensures found { IfOk result (λ player. Held (as_read (C.files scratch)) (line player.node.core.entries)) }
     ensures later { IfOk result (λ player. (C.faults scratch ≤ C.faults player.node.store.disk) × (C.struck scratch ≤ C.struck player.node.store.disk)) }
     // Where it failed, a crash leaves what agrees with the journals that the folder agreed with.
