@@ -9,7 +9,7 @@ use Rattle.cq_disk.specs.Call.{Image, Elapses, LeavesOnly}
 use Rattle.cq_disk.specs.Moments.{started, goes_on}
 use Rattle.cq_entry.specs.declared.entry.Entry.{Entry}
 use Rattle.cq_entry.specs.declared.entry.EntryKind.TheVariants.{Small as SmallEntry}
-use Rattle.cq_entry.specs.Entry.{IsPresent, IsSeen, entry_bytes}
+use Rattle.cq_entry.specs.Entry.{IsEntry, IsPresent, IsSeen, entry_bytes}
 use Rattle.cq_index.proofs.Looked.{byte_of}
 use Rattle.cq_back.specs.declared.found.HeldEntry.{HeldEntry}
 use Rattle.cq_disk.specs.declared.name.Name.{Name}
@@ -21,13 +21,16 @@ use Rattle.cq_gate.specs.Gate.{IsGate, Shows, kind_of}
 use Rattle.cq_gate.proofs.Gates.{end_is}
 use Rattle.cq_gate.proofs.Contents.{content_inside}
 use Rattle.cq_small.specs.declared.store.SmallStore.{SmallStore}
-use Rattle.cq_small.specs.Store.{IsStore, IsWhole, StandsAt}
+use Rattle.cq_gate.specs.Calls.{BreaksHeader}
+use Rattle.cq_gate.specs.Opened.{gate_len, IsThereGate}
+use Rattle.cq_small.specs.Calls.{IsOpened}
+use Rattle.cq_small.specs.Store.{IsWhole, StandsAt, IsSmallStore, name_of as store_name, len_of as store_len, IsVacant as IsStoreVacant}
 use Rattle.cq_small.proofs.Records.{record_inside}
 use Rattle.cq_index.specs.declared.segment.Segment.{Segment}
 use Rattle.cq_index.specs.Codec.{entry_len}
 use Rattle.cq_index.specs.Places.{place_of, entry_at}
 use Rattle.cq_index.specs.Opened.{IsIndex}
-use Rattle.cq_index.specs.Segments.{name_of, count_of, present_of, IsVacant, IsSegment, IsThereGate, Knows}
+use Rattle.cq_index.specs.Segments.{name_of, count_of, present_of, IsVacant, IsSegment, Knows}
 use Rattle.cq_index.proofs.Entries.{entry_in}
 use Rattle.cq_held.specs.Held.{bytes_in, content_of}
 use Rattle.cq_held.proofs.Images.{at_name}
@@ -35,13 +38,21 @@ use Rattle.cq_held.specs.Folder.{IsSettled}
 use Rattle.cq_back.specs.Folder.{index_file, small_file, file_bytes, IsStray, IsImageOrWithout}
 use Rattle.cq_back.specs.declared.error.BackError.{BackError}
 use Rattle.cq_back.specs.declared.error.BackError.TheVariants.{Fault, Memory, Damaged}
-use Rattle.cq_back.specs.Read.{IsIndexOf, IsSmallOf, IsLacking, IsBodyAt, IfDamaged, Breaks, Misfits, gate_in, holds_id, piece, seen_of}
+use Rattle.cq_back.specs.Read.{IsIndexOf, IsLacking, IsBodyAt, IfDamaged, Breaks, Misfits, holds_id, piece, seen_of}
 use Rattle.cq_back.specs.Read.Misfits.{Lacking}
+use Rattle.cq_back.specs.Found.{BreaksSmall}
+use Rattle.cq_back.specs.Cause.{HasCause, WasUnfit}
+use Rattle.cq_back.specs.Cause.HasCause.{OfUnfit}
 
 -- a fact of the bytes of a file
 pub among_bytes : (slot : Option File) (P : List ℕ → Type 0) → Among slot (λ f. P f.reads) → AmongBytes (bytes_in slot) P
 among_bytes None P none = none
 among_bytes (Some f) P has = has
+
+-- a header that breaks a rule
+pub header_broken : (slot : Option File) (place found : ℕ) → Among slot (BreaksHeader 2 place found) → AmongBytes (bytes_in slot) (λ file. BreaksSmall file place × (found ≡ slice_index file place))
+header_broken None place found none = none
+header_broken (Some f) place found b = ((b.long, b.breaks), b.found_is)
 
 pub bytes_have : (slot : Option File) (P : List ℕ → Type 0) → Among slot (λ f. P f.reads) → P (file_bytes slot)
 bytes_have None P none = absurd none
@@ -94,8 +105,8 @@ opened_index segment (Some f) name settled_ knows is = gated segment f name (is.
 
 -- ---- the small store
 
-pub no_small : (slot : Option File) → slot ≡ None → IsSmallOf None slot
-no_small slot is = record { absent = λ none. is; name = λ g open_. absurd (none_some g open_); there = λ g open_. absurd (none_some g open_) }
+pub vacant_small : (store : SmallStore) (slot : Option File) → IsStoreVacant store → slot ≡ None → IsSmallStore store slot
+vacant_small store slot vacant is = record { absent = λ v. is; there = λ gate open_. absurd (none_some gate (sym vacant ∙ open_)) }
   where
     none_some : (gate : Gate) → None ≡ Some gate → ⊥
     none_some gate e = cc
@@ -103,25 +114,28 @@ no_small slot is = record { absent = λ none. is; name = λ g open_. absurd (non
 pub absent_formed : (slot : Option File) → slot ≡ None → IsGated 2 (file_bytes slot)
 absent_formed slot is = no_header (file_bytes slot) 2 (ap file_bytes is)
 
-same_gate : (g h : Gate) → Some g ≡ Some h → g ≡ h
-same_gate g h e = cc
+same_file : (f h : File) → Some f ≡ Some h → f ≡ h
+same_file f h e = cc
 
-pub opened_small : (store : SmallStore) (slot : Option File) → store.gate.name ≡ small_file → IsSettled slot → IsThere slot (λ f. f ≡ settled f.reads → IsStore store f) → IsSmallOf (Some store.gate) slot
-opened_small store slot name settled_ is = record {
-  absent = λ none. absurd (some_none none);
-  name = λ g e. subst (λ (h : Gate). h.name ≡ small_file) (same_gate store.gate g e) name;
-  there = λ g e. subst (λ (h : Gate). IsThere slot (IsGate h)) (same_gate store.gate g e) (record { is_some = is.is_some; has = λ f was. is.has f was (settled_ f was) });
+pub opened_small : (store : SmallStore) (slot : Option File) → IsSettled slot → IsThere slot (IsOpened store) → IsSmallStore store slot
+opened_small store None settled_ is = absurd (false≢true is.is_some)
+opened_small store (Some f) settled_ is = record {
+  absent = λ none. absurd (subst (λ (o : Option Gate). IsThereGate o (λ gate. IsGate gate f)) none known);
+  there = λ gate open_. record { is_some = refl; has = λ h same. subst (IsGate gate) (same_file f h same) (subst (λ (o : Option Gate). IsThereGate o (λ gate'. IsGate gate' f)) open_ known) };
 }
   where
-    some_none : Some store.gate ≡ None → ⊥
-    some_none e = cc
+    known : IsThereGate store.gate (λ gate. IsGate gate f)
+    known = (is.has f refl).is (settled_ f refl)
 
-pub small_formed : (store : SmallStore) (slot : Option File) → store.gate.name ≡ small_file → IsThere slot (λ f. Shows store.gate f.reads) → IsGated 2 (file_bytes slot)
+pub small_formed : (store : SmallStore) (slot : Option File) → store_name store ≡ small_file → IsThere slot (IsOpened store) → IsGated 2 (file_bytes slot)
 small_formed store None name is = absurd (false≢true is.is_some)
-small_formed store (Some f) name is =
-    let shows = is.has f refl in
-    let kind : kind_of store.gate ≡ 2 = ap (λ (n : Name). kind_byte n.kind) name in
-    λ long. subst (λ (k : ℕ). IsFormed k f.reads) kind (shows.selected (omega (arith, long, shows.len))).formed
+small_formed store (Some f) name is = shown store.gate refl (is.has f refl).knows
+  where
+    shown : (o : Option Gate) → store.gate ≡ o → IsThereGate o (λ gate. Shows gate f.reads) → IsGated 2 f.reads
+    shown None none shows = absurd shows
+    shown (Some gate) open_ shows =
+        let kind : kind_of gate ≡ 2 = ap (λ (n : Name). kind_byte n.kind) ((store.gated gate open_).name_is ∙ name) in
+        λ long. subst (λ (k : ℕ). IsFormed k f.reads) kind (shows.selected (omega (arith, long, shows.len))).formed
 
 -- ---- a record
 
@@ -145,13 +159,19 @@ outside_lacks (Some f) gate place len is past body same stands =
     let whole = content_inside gate f g in
     absurd (grind (arith, inside, whole, g.len_is, past, same, stands.from))
 
-pub not_whole : (slot : Option File) (whole : Bool) (place len : ℕ) → whole ≡ false → Among slot (λ f. (whole ≡ true) ↔ IsWhole f.reads place len) → IsLacking (content_of (bytes_in slot)) place len
-not_whole None whole place len off none body same stands = absurd none
-not_whole (Some f) whole place len off is body same stands = false≢true (sym off ∙ is.1 (body, (same, stands)))
+pub store_lacks : (store : SmallStore) (slot : Option File) (place len : ℕ) → IsSmallStore store slot → store_len store < place + (len + 5) → IsLacking (content_of (bytes_in slot)) place len
+store_lacks store slot place len is past = of_gate store.gate refl past
+  where
+    of_gate : (o : Option Gate) → store.gate ≡ o → gate_len o < place + (len + 5) → IsLacking (content_of (bytes_in slot)) place len
+    of_gate None none past = none_lacks slot place len (is.absent none)
+    of_gate (Some gate) open_ past = outside_lacks slot gate place len (is.there gate open_) past
 
-pub is_whole : (slot : Option File) (whole : Bool) (place len : ℕ) → whole ≡ true → Among slot (λ f. (whole ≡ true) ↔ IsWhole f.reads place len) → Among slot (λ f. IsWhole f.reads place len)
-is_whole None whole place len yes_ none = none
-is_whole (Some f) whole place len yes_ is = is.0 yes_
+pub not_whole : (slot : Option File) (whole : Bool) (place len : ℕ) → whole ≡ false → ((whole ≡ true) ↔ Among slot (λ f. IsWhole f.reads place len)) → IsLacking (content_of (bytes_in slot)) place len
+not_whole None whole place len off is = lacks_none [] place len refl
+not_whole (Some f) whole place len off is = λ body same stands. false≢true (sym off ∙ is.1 (body, (same, stands)))
+
+pub is_whole : (slot : Option File) (whole : Bool) (place len : ℕ) → whole ≡ true → ((whole ≡ true) ↔ Among slot (λ f. IsWhole f.reads place len)) → Among slot (λ f. IsWhole f.reads place len)
+is_whole slot whole place len yes_ is = is.0 yes_
 
 pub body_stands : (slot : Option File) (place len : ℕ) (body : List ℕ) → length body ≡ len → Among slot (λ f. StandsAt f.reads place body) → IsBodyAt (content_of (bytes_in slot)) place len body
 body_stands None place len body same none = absurd none
@@ -167,11 +187,9 @@ damaged_to (Damaged name place byte) P Q step has = step name place byte has
 pub same_files : (old new : Name → Option File) → SameFiles old new → new ≡ old
 same_files old new same = λ i n. same n i
 
--- the store's file is there
-pub store_there : (small : Option SmallStore) (store : SmallStore) (files : Name → Option File) → small ≡ Some store → IsSmallOf (gate_in small) (files small_file) → IsThere (files store.gate.name) (IsStore store)
-store_there small store files is of_ =
-    let open_ : gate_in small ≡ Some store.gate = ap gate_in is in
-    subst (λ (n : Name). IsThere (files n) (IsStore store)) (sym (of_.name store.gate open_)) (of_.there store.gate open_)
+-- the store's file is the folder's
+pub store_named : (store : SmallStore) (files : Name → Option File) → store_name store ≡ small_file → IsSmallStore store (files small_file) → IsSmallStore store (files (store_name store))
+store_named store files name is = subst (λ (n : Name). IsSmallStore store (files n)) (sym name) is
 
 -- an entry that doesn't fit is told by its field's first byte
 pub breaks_at : (Told : Type 0) (small file : List ℕ) (held : List HeldEntry) (at : ℕ) (e : Entry) (byte : ℕ) (error : BackError) → error ≡ Damaged index_file (place_of at + byte) (slice_index (entry_bytes e) byte) → byte < 32
@@ -184,6 +202,11 @@ breaks_at Told small file held at e byte error is inside stored misfits =
       place_is = refl;
       found_is = ap (λ (l : List ℕ). slice_index l byte) (sym (stored told).spelled) ∙ byte_of file at byte inside;
     })
+
+-- on each disk
+pub unfit_at : (held : List HeldEntry) (at : ℕ) (e : Entry) (byte : ℕ) (error : BackError) → error ≡ Damaged index_file (place_of at + byte) (slice_index (entry_bytes e) byte) → IsEntry e → WasUnfit held e byte → IfDamaged error HasCause
+unfit_at held at e byte error is valid unfit =
+    subst (λ (x : BackError). IfDamaged x HasCause) (sym is) (OfUnfit refl (record { at = at; held = held; entry = e; valid = valid; byte = byte; unfit = unfit; place_is = refl; found_is = refl }))
 
 pub lacks_of : (small : List ℕ) (held : List HeldEntry) (e : Entry) (body : Option (List ℕ)) → body ≡ None → holds_id held e.id ≡ false → e.kind ≡ SmallEntry → MatchOption body (IsLacking small e.place e.len) (λ b. IsBodyAt small e.place e.len b) → Misfits small held e 24
 lacks_of small held e None is new kind lacks = Lacking refl new kind lacks
@@ -264,3 +287,20 @@ err_of {T = T} {S = S} {E = E} fault e is = let same : e ≡ fault = one is in a
 -- a value is no error
 pub no_error_of : {T E : Type 0} {v : T} {fault : E} → Path (Result T E) (Ok v) (Err fault) → ⊥
 no_error_of e = cc
+
+-- a fact of an answer, by its case
+pub at_each : {T E : Type 0} (result : Result T E) (P : T → Type 0) → ((x : T) → result ≡ Ok x → P x) → IfOk result P
+at_each (Ok x) P at = at x refl
+at_each (Err e) P at = tt
+
+pub at_error : {T E : Type 0} (result : Result T E) (P : E → Type 0) → ((e : E) → result ≡ Err e → P e) → IfErr result P
+at_error (Ok x) P at = tt
+at_error (Err e) P at = at e refl
+
+pub of_ok : {T E : Type 0} (P : T → Type 0) (result : Result T E) (x : T) → result ≡ Ok x → IfOk result P → P x
+of_ok P (Ok y) x is has = (let same : y ≡ x = cc in subst P same has)
+of_ok P (Err e) x is has = cc
+
+pub of_err : {T E : Type 0} (P : E → Type 0) (result : Result T E) (e : E) → result ≡ Err e → IfErr result P → P e
+of_err P (Ok y) e is has = cc
+of_err P (Err f) e is has = (let same : f ≡ e = cc in subst P same has)

@@ -1,13 +1,15 @@
 // One entry, and the record of its message.
-ghost use Rattle.std.specs.Prelude.{◌≡◌, ◌≤◌, ◌<◌, ◌+◌, MatchOption, IfOk, IfErr, IfSome, OnOk, length, slice_index};
+ghost use Rattle.std.specs.Prelude.{◌≡◌, ◌≤◌, ◌<◌, ◌+◌, MatchOption, IfOk, IfErr, IfSome, OnOk, length, slice_index, IsErrOf};
 ghost use Rattle.cq_disk.specs.Files.{IsImage, SameFiles};
-ghost use Rattle.cq_disk.specs.Call.{LeavesOnly, CausedOf, StruckByOf, KeepsPlan};
+ghost use Rattle.cq_disk.specs.Run.{Ran, LeavesOnly};
 ghost use Rattle.cq_entry.specs.Entry.{IsEntry, IsPresent, entry_bytes};
+ghost use Rattle.cq_small.specs.Store.{name_of as store_name, len_of as store_len, IsSmallStore};
 ghost use Rattle.cq_index.specs.Places.{entry_at, place_of};
 ghost use Rattle.cq_held.specs.Held.{as_read, contents_of};
 ghost use Rattle.cq_back.specs.declared.error.BackError.TheVariants.{Fault as back_fault, Damaged};
+ghost use Rattle.cq_back.specs.Cause.{HasCause};
 ghost use Rattle.cq_back.specs.Folder.{index_file, small_file, file_bytes};
-ghost use Rattle.cq_back.specs.Read.{gate_in, len_in, IsSmallOf, AreIdsOf, IsLacking, IsBodyAt, Takes, Breaks, IfDamaged};
+ghost use Rattle.cq_back.specs.Read.{AreIdsOf, IsLacking, IsBodyAt, Takes, Breaks, IfDamaged};
 
 use crate::error::BackError;
 use crate::files::INDEX;
@@ -23,7 +25,7 @@ use std::alloc::Global;
 pub(crate) fn take_in<D: Disk>(
     alloc: Global,
     disk: &mut D,
-    small: &mut Option<SmallStore>,
+    small: &mut SmallStore,
     at: u32,
     entry: Entry,
     taken: &mut Taken,
@@ -31,18 +33,17 @@ pub(crate) fn take_in<D: Disk>(
     requires valid { IsEntry entry }
     requires few { at < 4096 }
     requires present { D.tells → IsPresent (entry_at (file_bytes (D.files disk.old index_file)) at) entry }
-    requires small { D.tells → IsSmallOf (gate_in small.old) (D.files disk.old small_file) }
+    requires named { store_name small.old ≡ small_file }
+    requires small { D.tells → IsSmallStore small.old (D.files disk.old small_file) }
     requires ids { AreIdsOf taken.old.ids taken.old.held.items }
-    ensures ok { OnOk result (Takes D.tells (contents_of (as_read (D.files disk.old)) small_file) (len_in small.old) at entry taken.old.held.items taken.new.held.items taken.old.lines taken.new.lines) }
+    ensures ok { OnOk result (Takes D.tells (contents_of (as_read (D.files disk.old)) small_file) (store_len small.old) at entry taken.old.held.items taken.new.held.items taken.old.lines taken.new.lines) }
     ensures ids { OnOk result (AreIdsOf taken.new.ids taken.new.held.items) }
     ensures damaged { IfErr result (λ error. IfDamaged error (λ name place found. D.tells → Breaks (contents_of (as_read (D.files disk.old)) small_file) (file_bytes (D.files disk.old index_file)) taken.old.held.items at entry name place found)) }
-    ensures same { gate_in small.new ≡ gate_in small.old }
+    ensures cause { IfErr result (λ error. IfDamaged error HasCause) }
+    ensures same { small.new ≡ small.old }
     ensures files { D.tells → SameFiles (D.files disk.old) (D.files disk.new) }
-    ensures any_moment { D.tells → LeavesOnly D.moment D.left disk.old disk.new (IsImage (D.files disk.old)) }
-    ensures cause { CausedOf back_fault (D.faults disk.old) (D.faults disk.new) result }
-    ensures later { D.moment disk.old ≤ D.moment disk.new }
-    ensures strike { StruckByOf back_fault (D.fuse disk.old) (D.moment disk.new) (D.struck disk.old) (D.struck disk.new) result }
-    ensures plan { KeepsPlan (D.fuse disk.old) (D.planned disk.old) (D.fuse disk.new) (D.planned disk.new) }
+    ensures any_moment { D.tells → LeavesOnly D.Disk disk.old disk.new (IsImage (D.files disk.old)) }
+    ensures ran { Ran D.Disk disk.old disk.new (IsErrOf result back_fault) }
 {
     if !taken.ids.insert(entry.id)? {
         return Err(broken(&entry, at, 8));
@@ -81,34 +82,29 @@ fn broken(entry: &Entry, at: u32, byte: u8) -> BackError
 fn body_of<D: Disk>(
     alloc: Global,
     disk: &mut D,
-    small: &mut Option<SmallStore>,
+    small: &mut SmallStore,
     place: u64,
     len: u32,
 ) -> Result<Option<Body>, BackError>
     requires short { len ≤ 1048576 }
-    requires small { D.tells → IsSmallOf (gate_in small.old) (D.files disk.old small_file) }
+    requires named { store_name small.old ≡ small_file }
+    requires small { D.tells → IsSmallStore small.old (D.files disk.old small_file) }
     ensures body { IfOk result (λ body. D.tells → MatchOption body (IsLacking (contents_of (as_read (D.files disk.old)) small_file) place len) (λ b. IsBodyAt (contents_of (as_read (D.files disk.old)) small_file) place len b)) }
-    ensures fits { IfOk result (λ body. IfSome body (λ b. (length b ≡ len) × (place + len + 5 ≤ len_in small.old))) }
+    ensures fits { IfOk result (λ body. IfSome body (λ b. (length b ≡ len) × (place + len + 5 ≤ store_len small.old))) }
     ensures sound { IfErr result (λ error. IfDamaged error (λ name place found. ⊥)) }
-    ensures same { gate_in small.new ≡ gate_in small.old }
+    ensures same { small.new ≡ small.old }
     ensures files { D.tells → SameFiles (D.files disk.old) (D.files disk.new) }
-    ensures any_moment { D.tells → LeavesOnly D.moment D.left disk.old disk.new (IsImage (D.files disk.old)) }
-    ensures cause { CausedOf back_fault (D.faults disk.old) (D.faults disk.new) result }
-    ensures later { D.moment disk.old ≤ D.moment disk.new }
-    ensures strike { StruckByOf back_fault (D.fuse disk.old) (D.moment disk.new) (D.struck disk.old) (D.struck disk.new) result }
-    ensures plan { KeepsPlan (D.fuse disk.old) (D.planned disk.old) (D.fuse disk.new) (D.planned disk.new) }
+    ensures any_moment { D.tells → LeavesOnly D.Disk disk.old disk.new (IsImage (D.files disk.old)) }
+    ensures ran { Ran D.Disk disk.old disk.new (IsErrOf result back_fault) }
 {
-    let Some(store) = small else {
-        return Ok(None);
-    };
     let size = len as u64 + 5;
-    if store.len() < size || store.len() - size < place {
+    if small.len() < size || small.len() - size < place {
         return Ok(None);
     }
-    if !store.whole(disk, place, len)? {
+    if !small.whole(disk, place, len)? {
         return Ok(None);
     }
     let mut bytes = vec![in alloc; 0; len as usize]?;
-    store.read(disk, place, &mut bytes)?;
+    small.read(disk, place, &mut bytes)?;
     Ok(Some(Body::from_vec(bytes)))
 }

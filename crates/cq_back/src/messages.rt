@@ -1,14 +1,16 @@
 // The present entries of a segment, with their messages.
-ghost use Rattle.std.specs.Prelude.{◌≡◌, ◌≤◌, ◌<◌, ◌+◌, IfOk, IfErr, IfSome, OnOk};
+ghost use Rattle.std.specs.Prelude.{◌≡◌, ◌≤◌, ◌<◌, ◌+◌, IfOk, IfErr, IfSome, OnOk, IsErrOf};
 ghost use Rattle.cq_disk.specs.Files.{IsImage, SameFiles};
-ghost use Rattle.cq_disk.specs.Call.{LeavesOnly, CausedOf, StruckByOf, KeepsPlan};
+ghost use Rattle.cq_disk.specs.Run.{Ran, LeavesOnly};
 ghost use Rattle.cq_entry.specs.Entry.{IsEntry, IsPresent, IsSeen};
+ghost use Rattle.cq_small.specs.Store.{name_of as store_name, len_of as store_len, IsSmallStore};
 ghost use Rattle.cq_index.specs.Places.{entry_at};
 ghost use Rattle.cq_index.specs.Segments.{name_of, count_of, present_of, IsSegment};
 ghost use Rattle.cq_held.specs.Held.{as_read, contents_of};
 ghost use Rattle.cq_back.specs.declared.error.BackError.TheVariants.{Fault as back_fault};
+ghost use Rattle.cq_back.specs.Cause.{HasCause};
 ghost use Rattle.cq_back.specs.Folder.{index_file, small_file, file_bytes};
-ghost use Rattle.cq_back.specs.Read.{gate_in, len_in, IsSmallOf, IsIndexOf, AreIdsOf, IsRead, AreTaken, AreWithin, BreaksFirst, IfDamaged, piece, seen_of};
+ghost use Rattle.cq_back.specs.Read.{IsIndexOf, AreIdsOf, IsRead, AreTaken, AreWithin, BreaksFirst, IfDamaged, piece, seen_of};
 
 use crate::entry::take_in;
 use crate::error::BackError;
@@ -29,24 +31,23 @@ pub(crate) fn read_messages<D: Disk>(
     alloc: Global,
     disk: &mut D,
     segment: &mut Segment,
-    small: &mut Option<SmallStore>,
+    small: &mut SmallStore,
 ) -> Result<(Vec<HeldEntry>, Lines), BackError>
     requires name { name_of segment.old ≡ index_file }
     requires index { D.tells → IsIndexOf (count_of segment.old) (present_of segment.old) (file_bytes (D.files disk.old index_file)) }
     requires segment { D.tells → IsSegment segment.old (D.files disk.old index_file) }
-    requires small { D.tells → IsSmallOf (gate_in small.old) (D.files disk.old small_file) }
+    requires named { store_name small.old ≡ small_file }
+    requires small { D.tells → IsSmallStore small.old (D.files disk.old small_file) }
     ensures taken { IfOk result (λ read. AreTaken (count_of segment.old) read.0.items read.1) }
-    ensures within { IfOk result (λ read. AreWithin (len_in small.old) read.0.items) }
+    ensures within { IfOk result (λ read. AreWithin (store_len small.old) read.0.items) }
     ensures read { IfOk result (λ read. D.tells → IsRead (contents_of (as_read (D.files disk.old))) (file_bytes (D.files disk.old index_file)) (count_of segment.old) read.0.items read.1) }
     ensures damaged { IfErr result (λ error. IfDamaged error (λ name place found. D.tells → BreaksFirst (contents_of (as_read (D.files disk.old))) (file_bytes (D.files disk.old index_file)) name place found)) }
+    ensures cause { IfErr result (λ error. IfDamaged error HasCause) }
     ensures same { segment.new ≡ segment.old }
-    ensures same_small { gate_in small.new ≡ gate_in small.old }
+    ensures same_small { small.new ≡ small.old }
     ensures files { D.tells → SameFiles (D.files disk.old) (D.files disk.new) }
-    ensures any_moment { D.tells → LeavesOnly D.moment D.left disk.old disk.new (IsImage (D.files disk.old)) }
-    ensures cause { CausedOf back_fault (D.faults disk.old) (D.faults disk.new) result }
-    ensures later { D.moment disk.old ≤ D.moment disk.new }
-    ensures strike { StruckByOf back_fault (D.fuse disk.old) (D.moment disk.new) (D.struck disk.old) (D.struck disk.new) result }
-    ensures plan { KeepsPlan (D.fuse disk.old) (D.planned disk.old) (D.fuse disk.new) (D.planned disk.new) }
+    ensures any_moment { D.tells → LeavesOnly D.Disk disk.old disk.new (IsImage (D.files disk.old)) }
+    ensures ran { Ran D.Disk disk.old disk.new (IsErrOf result back_fault) }
 {
     let mut taken = Taken {
         held: Vec::new(alloc),
@@ -68,7 +69,7 @@ fn read_next<D: Disk>(
     alloc: Global,
     disk: &mut D,
     segment: &mut Segment,
-    small: &mut Option<SmallStore>,
+    small: &mut SmallStore,
     at: u32,
     taken: &mut Taken,
 ) -> Result<(), BackError>
@@ -77,21 +78,20 @@ fn read_next<D: Disk>(
     requires few { count_of segment.old ≤ 4096 }
     requires index { D.tells → IsIndexOf (count_of segment.old) (present_of segment.old) (file_bytes (D.files disk.old index_file)) }
     requires segment { D.tells → IsSegment segment.old (D.files disk.old index_file) }
-    requires small { D.tells → IsSmallOf (gate_in small.old) (D.files disk.old small_file) }
+    requires named { store_name small.old ≡ small_file }
+    requires small { D.tells → IsSmallStore small.old (D.files disk.old small_file) }
     requires ids { AreIdsOf taken.old.ids taken.old.held.items }
     ensures ids { OnOk result (AreIdsOf taken.new.ids taken.new.held.items) }
     ensures taken { OnOk result (AreTaken at taken.old.held.items taken.old.lines → AreTaken (at + 1) taken.new.held.items taken.new.lines) }
-    ensures within { OnOk result (AreWithin (len_in small.old) taken.old.held.items → AreWithin (len_in small.old) taken.new.held.items) }
+    ensures within { OnOk result (AreWithin (store_len small.old) taken.old.held.items → AreWithin (store_len small.old) taken.new.held.items) }
     ensures read { OnOk result (D.tells → IsRead (contents_of (as_read (D.files disk.old))) (file_bytes (D.files disk.old index_file)) at taken.old.held.items taken.old.lines → IsRead (contents_of (as_read (D.files disk.old))) (file_bytes (D.files disk.old index_file)) (at + 1) taken.new.held.items taken.new.lines) }
     ensures damaged { IfErr result (λ error. IfDamaged error (λ name place found. D.tells → IsRead (contents_of (as_read (D.files disk.old))) (file_bytes (D.files disk.old index_file)) at taken.old.held.items taken.old.lines → AreTaken at taken.old.held.items taken.old.lines → BreaksFirst (contents_of (as_read (D.files disk.old))) (file_bytes (D.files disk.old index_file)) name place found)) }
+    ensures cause { IfErr result (λ error. IfDamaged error HasCause) }
     ensures same { segment.new ≡ segment.old }
-    ensures same_small { gate_in small.new ≡ gate_in small.old }
+    ensures same_small { small.new ≡ small.old }
     ensures files { D.tells → SameFiles (D.files disk.old) (D.files disk.new) }
-    ensures any_moment { D.tells → LeavesOnly D.moment D.left disk.old disk.new (IsImage (D.files disk.old)) }
-    ensures cause { CausedOf back_fault (D.faults disk.old) (D.faults disk.new) result }
-    ensures later { D.moment disk.old ≤ D.moment disk.new }
-    ensures strike { StruckByOf back_fault (D.fuse disk.old) (D.moment disk.new) (D.struck disk.old) (D.struck disk.new) result }
-    ensures plan { KeepsPlan (D.fuse disk.old) (D.planned disk.old) (D.fuse disk.new) (D.planned disk.new) }
+    ensures any_moment { D.tells → LeavesOnly D.Disk disk.old disk.new (IsImage (D.files disk.old)) }
+    ensures ran { Ran D.Disk disk.old disk.new (IsErrOf result back_fault) }
 {
     match next_entry(disk, segment, at) {
         Ok(None) => Ok(()),
@@ -114,13 +114,11 @@ fn next_entry<D: Disk>(
     ensures seen { IfOk result (λ entry. D.tells → IsSeen (piece (file_bytes (D.files disk.old index_file)) at) (seen_of entry)) }
     ensures stands { IfOk result (λ entry. IfSome entry (λ e. D.tells → IsPresent (entry_at (file_bytes (D.files disk.old index_file)) at) e)) }
     ensures sound { IfErr result (λ error. IfDamaged error (λ name place found. D.tells → ⊥)) }
+    ensures cause { IfErr result (λ error. IfDamaged error HasCause) }
     ensures same { segment.new ≡ segment.old }
     ensures files { D.tells → SameFiles (D.files disk.old) (D.files disk.new) }
-    ensures any_moment { D.tells → LeavesOnly D.moment D.left disk.old disk.new (IsImage (D.files disk.old)) }
-    ensures cause { CausedOf back_fault (D.faults disk.old) (D.faults disk.new) result }
-    ensures later { D.moment disk.old ≤ D.moment disk.new }
-    ensures strike { StruckByOf back_fault (D.fuse disk.old) (D.moment disk.new) (D.struck disk.old) (D.struck disk.new) result }
-    ensures plan { KeepsPlan (D.fuse disk.old) (D.planned disk.old) (D.fuse disk.new) (D.planned disk.new) }
+    ensures any_moment { D.tells → LeavesOnly D.Disk disk.old disk.new (IsImage (D.files disk.old)) }
+    ensures ran { Ran D.Disk disk.old disk.new (IsErrOf result back_fault) }
 {
     match segment.entry(disk, at) {
         Ok(entry) => Ok(entry),

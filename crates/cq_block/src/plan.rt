@@ -51,7 +51,8 @@ fn spell(bytes: &mut Vec<u8>, step: &Move) -> Result<(), AllocError>
 
 /// How many moves a plan has. `None` where the bytes are no plan.
 fn count(bytes: &[u8]) -> Option<usize>
-    ensures { MatchOption result (is_plan bytes.now ≡ false) (λ n. (is_plan bytes.now ≡ true) × (n ≡ told_count bytes.now)) }
+    ensures { MatchOption result (is_plan bytes.now ≡ false)
+        (λ n. (is_plan bytes.now ≡ true) × (n ≡ told_count bytes.now)) }
 {
     let count = take_u64(bytes, 0)?;
     let rest = bytes.len() - 8;

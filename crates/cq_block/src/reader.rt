@@ -22,7 +22,8 @@ struct Gap {
 /// wrong, or the last byte of one that doesn't end in 255.
 pub fn chain(alloc: Global, content: &[u8]) -> Result<Vec<Block>, BlockError>
     ensures chain { IfOk result (λ blocks. IsChain content.now blocks.items) }
-    ensures only { IfOk result (λ blocks. (others : List SeenBlock) → IsChain content.now others → others ≡ blocks.items) }
+    ensures only { IfOk result
+        (λ blocks. (others : List SeenBlock) → IsChain content.now others → others ≡ blocks.items) }
     ensures broken { IfErr result (IsCause content.now) }
 {
     let mut blocks = Vec::new(alloc);
@@ -67,7 +68,8 @@ fn front(bytes: &[u8], at: u64) -> Result<Block, Gap>
 
 /// The whole length and the id that the head of the block at the front of bytes tells. `None` where the head is wrong.
 fn head(bytes: &[u8]) -> Option<(u64, u128)>
-    ensures { MatchOption result (has_head bytes.now ≡ false) (λ told. (has_head bytes.now ≡ true) × (told.0 ≡ told_len bytes.now) × (told.1 ≡ told_id bytes.now)) }
+    ensures { MatchOption result (has_head bytes.now ≡ false)
+        (λ told. (has_head bytes.now ≡ true) × (told.0 ≡ told_len bytes.now) × (told.1 ≡ told_id bytes.now)) }
 {
     if bytes.len() < 25 {
         return None;

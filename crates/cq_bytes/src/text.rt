@@ -16,6 +16,7 @@ pub fn is_text(bytes: &[u8]) -> bool
     all_visible(bytes)
 }
 
+/// Whether each byte is a visible one.
 fn all_visible(bytes: &[u8]) -> bool
     ensures { result ≡ list_all is_visible bytes.now }
 {

@@ -55,7 +55,8 @@ impl Lacks {
     pub fn add(&mut self, client: u32, number: u64, id: u128, queues: u32) -> Result<(), AllocError>
         requires fresh { map.get self.old id ≡ None }
         requires some { 0 < queues }
-        ensures ok { OnOk result (self.new ≡ map.insert self.old id (record { client = client; number = number; queues = queues })) }
+        ensures ok { OnOk result
+            (self.new ≡ map.insert self.old id (record { client = client; number = number; queues = queues })) }
         ensures err { OnErr result (self.new ≡ self.old) }
     {
         let lack = Lack {

@@ -1,19 +1,19 @@
 // The bytes of entries.
 use crate::{Entry, EntryKind, Seen, broken_at, decode, encode};
 
-// A small entry: a body of 5 bytes, the id 1, the place 128.
+/// A small entry: a body of 5 bytes, the id 1, the place 128.
 const SMALL: [u8; 32] = [
     1, 1, 0, 0, 0, 0, 0, 5, 0, 0, 0, 0, 0, 0, 0, 0, 0, 0, 0, 0, 0, 0, 0, 1, 0, 0, 0, 0, 0, 0, 0,
     0x80,
 ];
 
-// A shared entry: a body of 1,048,576 bytes, the greatest id, no place.
+/// A shared entry: a body of 1,048,576 bytes, the greatest id, no place.
 const SHARED: [u8; 32] = [
     1, 2, 0, 0, 0, 0x10, 0, 0, 255, 255, 255, 255, 255, 255, 255, 255, 255, 255, 255, 255, 255,
     255, 255, 255, 0, 0, 0, 0, 0, 0, 0, 0,
 ];
 
-// A byte of an entry at which another stands, and the first byte of the first field that is broken so.
+/// A byte of an entry at which another stands, and the first byte of the first field that is broken so.
 const CHANGES: [([u8; 32], usize, u8, Option<u32>); 21] = [
     (SMALL, 0, 1, None),
     (SMALL, 1, 0, Some(1)),

@@ -65,3 +65,8 @@ OpensLowest d old new = (i : ℕ) × (i < length old) × (slice_index old i ≡ 
 -- one load more, of the word of the delivery d: it found that d is dropped exactly where the answer is true
 abbrev pub IsLook : Bool → ℕ → List ℕ → List (ℕ × ℕ) → List (ℕ × ℕ) → Type 0
 IsLook result d ns old new = (i : ℕ) × (r : ℕ) × (slice_index ns i ≡ d + 1) × (new ≡ old ++ (i, r) ∷ []) × (IsTrue result ↔ (r ≡ 2 * (d + 1) + 1))
+
+-- one client's end looked once, and no other's
+pub record LooksOnce (client : ℕ) (Look : List (ℕ × ℕ) → List (ℕ × ℕ) → Type 0) (old new : ℕ → List (ℕ × ℕ)) : Type 0 where
+  pub look : Look (old client) (new client)
+  pub others : (c : ℕ) → c ≢ client → new c ≡ old c

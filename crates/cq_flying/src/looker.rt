@@ -1,7 +1,7 @@
 // The node's ends of all words, with the words.
 ghost use Rattle.std.specs.Prelude.{◌≡◌, ◌≢◌, ◌<◌, ◌↔◌, ◌++◌, ◌∷◌, [], ℕ, length, Contains, IsTrue, MatchBool};
-ghost use Rattle.cq_inbox.specs.Flags.{Joins, Leaves};
-ghost use Rattle.cq_flying.specs.Ends.{IsLook, OpensLowest};
+ghost use Rattle.cq_inbox.specs.Flags.{IsFree, Joins, Leaves};
+ghost use Rattle.cq_flying.specs.Ends.{IsLook, LooksOnce, OpensLowest};
 ghost use Rattle.cq_flying.specs.Words.{word_ids, seat_ids, names_of, opened_of, seen_of, looks_of};
 
 use crate::words::{WordSeats, Words};
@@ -73,8 +73,7 @@ impl<'a, N: TableName> Flags for Looker<'a, N> {
 
     fn open_word(&mut self, client: u32, delivery: u32)
         requires client { client < length (seat_ids self.old.seats) }
-        requires room { length (opened_of self.old.seats client) < 64 }
-        requires fresh { ¬ Contains (opened_of self.old.seats client) delivery }
+        requires free { IsFree delivery (opened_of self.old.seats client) }
         ensures clients { length (seat_ids self.new.seats) ≡ length (seat_ids self.old.seats) }
         ensures opened { Joins delivery (opened_of self.old.seats client) (opened_of self.new.seats client) }
         ensures fresh { ⊥ → ¬ ⊥ }
@@ -95,10 +94,12 @@ impl<'a, N: TableName> Flags for Looker<'a, N> {
         ensures told { ⊥ → IsTrue result ↔ ⊥ }
         ensures opened { (c : ℕ) → opened_of self.new.seats c ≡ opened_of self.old.seats c }
         ensures dropped { ⊥ → (c d : ℕ) → ⊥ ↔ ⊥ }
-        ensures seen { MatchBool result (seen_of self.new.seats client ≡ seen_of self.old.seats client ++ delivery ∷ []) (seen_of self.new.seats client ≡ seen_of self.old.seats client) }
+        ensures seen { MatchBool result
+            (seen_of self.new.seats client ≡ seen_of self.old.seats client ++ delivery ∷ [])
+            (seen_of self.new.seats client ≡ seen_of self.old.seats client) }
         ensures other_seen { (c : ℕ) → c ≢ client → seen_of self.new.seats c ≡ seen_of self.old.seats c }
-        ensures look { IsLook result delivery (names_of self.old.seats client) (looks_of self.old.seats client) (looks_of self.new.seats client) }
-        ensures other_looks { (c : ℕ) → c ≢ client → looks_of self.new.seats c ≡ looks_of self.old.seats c }
+        ensures looks { LooksOnce client (IsLook result delivery (names_of self.old.seats client))
+            (looks_of self.old.seats) (looks_of self.new.seats) }
     {
         self.seats.dropped(self.words, client, delivery)
     }

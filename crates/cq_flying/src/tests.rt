@@ -10,7 +10,7 @@ use std::sync::Wait;
 use std::test::Fail;
 use std::thread::{Threads, join};
 
-// Opens a word, drops its delivery twice, looks, and closes the word.
+/// Opens a word, drops its delivery twice, looks, and closes the word.
 fn one_word<N: TableName>(words: &Words, owner: &mut Owner, seats: WordSeats) -> (WordSeats, bool)
     requires words { (word_ids words.now ≡ N.tables) × (seat_ids seats ≡ N.tables) × (length (seat_ids seats) ≡ 1) }
     requires owner { IsOwnerOf words.now owner.old }
@@ -34,7 +34,7 @@ fn one_word<N: TableName>(words: &Words, owner: &mut Owner, seats: WordSeats) ->
     )
 }
 
-// One thread: drops each delivery, again and again until it is dropped.
+/// One thread: drops each delivery, again and again until it is dropped.
 fn drop_all<R: Wait>(rt: &R, words: &Words, mut owner: Owner, count: u32) -> Owner
     requires { IsOwnerOf words.now owner }
     ensures { own_id result ≡ own_id owner }
@@ -49,7 +49,7 @@ fn drop_all<R: Wait>(rt: &R, words: &Words, mut owner: Owner, count: u32) -> Own
     owner
 }
 
-// Opens a word, and closes it once its delivery was seen dropped.
+/// Opens a word, and closes it once its delivery was seen dropped.
 fn until_dropped<N: TableName, R: Wait>(rt: &R, looker: &mut Looker<'_, N>, delivery: u32)
     requires client { 0 < length (seat_ids looker.old.seats) }
     requires none { length (opened_of looker.old.seats 0) ≡ 0 }
@@ -65,7 +65,7 @@ fn until_dropped<N: TableName, R: Wait>(rt: &R, looker: &mut Looker<'_, N>, deli
     looker.close_word(0, delivery);
 }
 
-// The other thread: so many deliveries, one after another.
+/// The other thread: so many deliveries, one after another.
 fn see_all<N: TableName, R: Wait>(rt: &R, words: &Words, seats: WordSeats, count: u32) -> WordSeats
     requires words { (word_ids words.now ≡ N.tables) × (seat_ids seats ≡ N.tables) × (length (seat_ids seats) ≡ 1) }
     requires none { length (opened_of seats 0) ≡ 0 }
@@ -78,7 +78,7 @@ fn see_all<N: TableName, R: Wait>(rt: &R, words: &Words, seats: WordSeats, count
     looker.into_seats()
 }
 
-// One word by itself, and then two threads.
+/// One word by itself, and then two threads.
 fn scenario<N: TableName + Send + Sync, R: Threads + Wait + Sync>(
     rt: &R,
     alloc: Global,
@@ -86,7 +86,8 @@ fn scenario<N: TableName + Send + Sync, R: Threads + Wait + Sync>(
     owner: Owner,
     seats: WordSeats,
 ) -> Result<(), AllocError>
-    requires words { (word_ids words ≡ N.tables) × (seat_ids seats ≡ N.tables) × (own_id owner ∷ [] ≡ N.tables) × IsOwnerOf words owner }
+    requires words { (word_ids words ≡ N.tables) × (seat_ids seats ≡ N.tables) × (own_id owner ∷ [] ≡ N.tables)
+        × IsOwnerOf words owner }
     requires none { length (opened_of seats 0) ≡ 0 }
 {
     let mut owners = Vec::with_capacity(alloc, 1)?;
@@ -98,7 +99,8 @@ fn scenario<N: TableName + Send + Sync, R: Threads + Wait + Sync>(
             ensures { own_id result ≡ own_id owner }
         { drop_all(rt, lent, owner, 1000) },
         move || -> WordSeats
-            requires { (word_ids lent.now ≡ N.tables) × (seat_ids seats ≡ N.tables) × (length (seat_ids seats) ≡ 1) × (length (opened_of seats 0) ≡ 0) }
+            requires { (word_ids lent.now ≡ N.tables) × (seat_ids seats ≡ N.tables) × (length (seat_ids seats) ≡ 1)
+                × (length (opened_of seats 0) ≡ 0) }
             ensures { seat_ids result ≡ N.tables }
         { see_all::<N, R>(rt, lent, seats, 1000) },
     );

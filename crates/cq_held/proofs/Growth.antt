@@ -1,7 +1,7 @@
 -- Files whose contents have grown hold what they held, and more.
 use Rattle.std.proofs.Common.{◌≡◌, ◌≢◌, ◌⊎◌, inl, inr, ⊎_elim, ℕ, suc, ◌+◌, ◌*◌, ◌-◌, ◌≤◌, Bool, List, [], ◌∷◌, ◌++◌, length, map, refl, sym, ap, ◌∙◌, subst, append_assoc, length-append, arith}
 use Rattle.std.specs.Prelude.{◌==◌, if◌then◌else◌}
-use Rattle.std.specs.List.{AllByRecursion}
+use Rattle.std.specs.List.{AllByRecursion, AllZip}
 use Rattle.std.proofs.lemmas.Bool.{cases_eq, eq-eqb, ne_eqb}
 use Rattle.std.proofs.lemmas.List.{length-map}
 use Rattle.cq_disk.specs.declared.name.Kind.TheVariants.{Index, Small}
@@ -16,7 +16,7 @@ use Rattle.cq_small.proofs.Records.{record_kept}
 use Rattle.cq_index.specs.Codec.{entry_len, most_entries}
 use Rattle.cq_index.specs.Places.{index_name, entries_bytes}
 use Rattle.cq_journal.specs.declared.event.Message.{Message}
-use Rattle.cq_held.specs.Held.{AreEntries, present, Spot, spots, below, Zip, IsMessageOf, HoldsIn}
+use Rattle.cq_held.specs.Held.{AreEntries, present, Spot, spots, below, IsMessageOf, HoldsIn}
 use Rattle.cq_held.specs.Folder.{Grows}
 use Rattle.cq_held.specs.Standing.{IsLast}
 use Rattle.cq_held.proofs.Below.{below_same, below_both, zip_append, zip_wider}
@@ -76,7 +76,7 @@ index_grows_other F G r n bytes grows q l other h = same_index F G q l
     (message_more F G q bytes (λ k. inl (grows.others (small_name q k) (small_is_not q k r n)))) h
 
 module _ (F G : Name → List ℕ) (q n : ℕ) (es : List Entry) (grows : Grows (index_name q n) (entries_bytes es) F G) (l ms : List Message) (h : HoldsIn F q l)
-    (room : length (F (index_name q n)) + entry_len * length es ≤ entry_len * most_entries) (last : IsLast F q n) (valid : AllByRecursion (λ e. IsPresent (entry_bytes e) e) es) (new : Zip (IsMessageOf F q) (spots n es) ms) where
+    (room : length (F (index_name q n)) + entry_len * length es ≤ entry_len * most_entries) (last : IsLast F q n) (valid : AllByRecursion (λ e. IsPresent (entry_bytes e) e) es) (new : AllZip (IsMessageOf F q) (spots n es) ms) where
   abbrev seen' : ℕ → List Seen
   seen' k = if k == n then h.seen k ++ map Present es else h.seen k
 
@@ -144,9 +144,9 @@ module _ (F G : Name → List ℕ) (q n : ℕ) (es : List Entry) (grows : Grows 
     short = short_next;
     most = suc n;
     none = λ k ge. ap present (off_n k (λ e. omega (arith, e, ge))) ∙ above_none k ge;
-    each = subst (λ (ss : List Spot). Zip (IsMessageOf G q) ss (l ++ ms)) (sym all_next)
+    each = subst (λ (ss : List Spot). AllZip (IsMessageOf G q) ss (l ++ ms)) (sym all_next)
         (zip_append (IsMessageOf G q) (below front h.most) (spots n es) l ms (still (below front h.most) l h.each) (still (spots n es) ms new));
   }
     where
-      still : (ss : List Spot) (ks : List Message) → Zip (IsMessageOf F q) ss ks → Zip (IsMessageOf G q) ss ks
+      still : (ss : List Spot) (ks : List Message) → AllZip (IsMessageOf F q) ss ks → AllZip (IsMessageOf G q) ss ks
       still ss ks z = zip_wider (IsMessageOf F q) (IsMessageOf G q) ss ks (message_more F G q [] (λ k. inl (grows.others (small_name q k) (small_is_not q k q n)))) z

@@ -27,7 +27,7 @@ use Rattle.cq_held.specs.Held.{bytes_in, as_read, content_of, contents_of, Holds
 use Rattle.cq_held.specs.Folder.{IsFormedAs, HasContent, Shows, Still, IsSettled, HasAdded, MayHaveAdded, grown}
 use Rattle.cq_held.specs.Survives.{SurvivesIn, Survives}
 use Rattle.cq_held.specs.Steady.{AreSound, SoundBy, Agrees, Steady, Agreed}
-use Rattle.cq_held.specs.Standing.{StillHolds, Standing, ComeNext, joined, IsSafe, Passed, confirm_at, confirm_all, IsQuiet}
+use Rattle.cq_held.specs.Standing.{StillHolds, Standing, ComeNext, joined, IsSafe, Confirm, confirm_at, confirm_all, IsQuiet}
 use Rattle.cq_held.specs.Laws.{opening, KeepsStanding, KeepsSteady}
 use Rattle.cq_held.proofs.Images.{grown_grows, reads_image, step_both, still_image, settled_has, append_leaves, added_still, create_leaves, made_still, bare_still}
 use Rattle.cq_held.proofs.Growth.{small_grows, index_grows, index_grows_other}
@@ -114,14 +114,14 @@ added_stands old new F name bytes readable added still =
     let g = found (new name) (λ g. IsGated (kind_byte name.kind) g.reads × (content g.reads ≡ content f.file.reads ++ bytes) × (g ≡ settled g.reads)) f.has in
     added_still old new F name bytes still (readable name) added.others f.file g.file f.is g.is g.has.0 g.has.1 g.has.2
 
-confirmed_stands : (files : Name → Option File) (past : List Entry) (lines : ℕ → List Message) (stamp : ℕ) (p : Passed) → IsSafe lines past p.id → Standing files past lines → Standing files (confirm_at stamp p ∷ past) lines
+confirmed_stands : (files : Name → Option File) (past : List Entry) (lines : ℕ → List Message) (stamp : ℕ) (p : Confirm) → IsSafe lines past p.id → Standing files past lines → Standing files (confirm_at stamp p ∷ past) lines
 confirmed_stands files past lines stamp p safe s = record {
   contents = s.contents;
   still = s.still;
   agreed = record { holds = s.agreed.holds; are = s.agreed.are; survives = λ q. confirmed_survives past stamp p.client p.number p.id q (lines q) (s.agreed.survives q) (safe q) };
 }
 
-stays_safe : (past : List Entry) (lines : ℕ → List Message) (stamp : ℕ) (p : Passed) (id : ℕ) → IsSafe lines past id → IsSafe lines (confirm_at stamp p ∷ past) id
+stays_safe : (past : List Entry) (lines : ℕ → List Message) (stamp : ℕ) (p : Confirm) (id : ℕ) → IsSafe lines past id → IsSafe lines (confirm_at stamp p ∷ past) id
 stays_safe past lines stamp p id safe q there waiting =
     safe q (ap (λ (ms : List Message). has_id ms id) (sym (append-nil (line past q))) ∙ there) (ap (λ (xs : List ℕ). contains xs id) (sym (append-nil (acked past q))) ∙ waiting)
 
@@ -225,7 +225,7 @@ module _ {D : Type 0} (moment : D → ℕ) (left : D → ℕ → ℕ → Image �
     standing_agrees : (past : List Entry) (lines : ℕ → List Message) → Standing (files disk) past lines → (image : Image) → left disk (moment disk) (moment disk) image → Agrees image past
     standing_agrees past lines s image was = agrees image s.contents past lines (still_image (files disk) s.contents s.still image (only disk image was)) s.agreed
 
-    confirmed_all : (past : List Entry) (lines : ℕ → List Message) (ps : List Passed) → ((p : Passed) → Contains ps p → IsSafe lines past p.id) → Standing (files disk) past lines → Steady (left disk) (moment disk) past → Steady (left disk) (moment disk) (confirm_all (moment disk) ps past)
+    confirmed_all : (past : List Entry) (lines : ℕ → List Message) (ps : List Confirm) → ((p : Confirm) → Contains ps p → IsSafe lines past p.id) → Standing (files disk) past lines → Steady (left disk) (moment disk) past → Steady (left disk) (moment disk) (confirm_all (moment disk) ps past)
     confirmed_all past lines [] safe s steady = steady
     confirmed_all past lines (p ∷ ps) safe s steady =
         let here : IsSafe lines past p.id = safe p (0, omega arith, refl) in
@@ -264,7 +264,7 @@ module _ {D : Type 0} (moment : D → ℕ) (left : D → ℕ → ℕ → Image �
     both_runs = moments.then moment left files only old mid new (λ image. Agrees image past) (records_run old mid past lines s queue number bytes run)
         (entries_run mid new past lines standing_mid queue number entries ms legal (next standing_mid.contents standing_mid.still) run')
 
-    committed : (ps : List Passed) → ((p : Passed) → Contains ps p → IsSafe (joined queue ms lines) past p.id) → Steady (left old) (moment old) past → Steady (left new) (moment new) (confirm_all (moment new) ps past)
+    committed : (ps : List Confirm) → ((p : Confirm) → Contains ps p → IsSafe (joined queue ms lines) past p.id) → Steady (left old) (moment old) past → Steady (left new) (moment new) (confirm_all (moment new) ps past)
     committed ps safe steady = confirmed_all new past (joined queue ms lines) ps safe standing_new (goes_on moment left old new (λ image. Agrees image past) both_runs past (λ image agree. agree) steady)
 
   pub keeps_steady : KeepsSteady moment left files

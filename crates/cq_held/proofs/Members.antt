@@ -1,4 +1,6 @@
 -- Each present entry is that of a message that is held, and each message that is held has one.
+use Rattle.cq_journal.specs.Lists.{IsIn}
+use Rattle.std.specs.List.{AllZip}
 use Rattle.std.proofs.Common.{◌≡◌, inl, inr, ⊎_elim, ℕ, zero, suc, ◌≤◌, ◌<◌, List, [], ◌∷◌, ◌++◌, ap, subst, arith}
 use Rattle.std.proofs.lemmas.Bool.{cases_lt, cases_eq}
 use Rattle.cq_disk.specs.declared.name.Name.{Name}
@@ -6,8 +8,7 @@ use Rattle.cq_entry.specs.declared.entry.Entry.{Entry}
 use Rattle.cq_entry.specs.declared.entry.Seen.{Seen}
 use Rattle.cq_index.specs.Places.{index_name}
 use Rattle.cq_journal.specs.declared.event.Message.{Message}
-use Rattle.cq_held.specs.Held.{contents_of, AreEntries, present, Spot, spots, below, Zip, IsMessageOf, HoldsIn}
-use Rattle.cq_held.specs.Steady.{IsIn}
+use Rattle.cq_held.specs.Held.{contents_of, AreEntries, present, Spot, spots, below, IsMessageOf, HoldsIn}
 use Rattle.cq_held.specs.Laws.{EntryOf, EntriesAreHeld, HeldHaveEntries}
 use Rattle.cq_held.proofs.Entries.{entries_one}
 use Rattle.cq_held.proofs.Sublists.{in_append}
@@ -41,14 +42,14 @@ in_spot n (x ∷ es) s there = ⊎_elim
     (λ here. (ap (λ (t : Spot). t.segment) here, inl (ap (λ (t : Spot). t.entry) here)))
     (λ later. let rest = in_spot n es s later in (rest.0, inr rest.1)) there
 
-zip_right : {A B : Type 0} (R : A → B → Type 0) (xs : List A) (ys : List B) (x : A) → Zip R xs ys → IsIn xs x → (y : B) × (IsIn ys y × R x y)
+zip_right : {A B : Type 0} (R : A → B → Type 0) (xs : List A) (ys : List B) (x : A) → AllZip R xs ys → IsIn xs x → (y : B) × (IsIn ys y × R x y)
 zip_right R [] ys x z there = absurd there
 zip_right R (a ∷ xs) [] x z there = absurd z
 zip_right R (a ∷ xs) (b ∷ ys) x z there = ⊎_elim
     (λ here. (b, (inl (λ i. b), subst (λ (c : _). R c b) here z.0)))
     (λ later. let rest = zip_right R xs ys x z.1 later in (rest.0, (inr rest.1.0, rest.1.1))) there
 
-zip_left : {A B : Type 0} (R : A → B → Type 0) (xs : List A) (ys : List B) (y : B) → Zip R xs ys → IsIn ys y → (x : A) × (IsIn xs x × R x y)
+zip_left : {A B : Type 0} (R : A → B → Type 0) (xs : List A) (ys : List B) (y : B) → AllZip R xs ys → IsIn ys y → (x : A) × (IsIn xs x × R x y)
 zip_left R [] [] y z there = absurd there
 zip_left R [] (b ∷ ys) y z there = absurd z
 zip_left R (a ∷ xs) [] y z there = absurd z

@@ -7,10 +7,26 @@ abbrev pub IsInRange : ℕ → ℕ → ℕ → ℕ → Type 0
 IsInRange clients segment threshold limit =
     ((1 ≤ clients) × (clients ≤ 64)) × ((16 ≤ segment) × (segment ≤ 4096)) × ((1 ≤ threshold) × (threshold ≤ 65536)) × ((4096 ≤ limit) × (limit ≤ 16777216))
 
+-- the numbers of a node
+abbrev pub clients_of : Config → ℕ
+clients_of config = config.clients
+
+abbrev pub segment_of : Config → ℕ
+segment_of config = config.segment
+
+abbrev pub threshold_of : Config → ℕ
+threshold_of config = config.threshold
+
+abbrev pub limit_of : Config → ℕ
+limit_of config = config.limit
+
+abbrev pub session_of : Config → ℕ
+session_of config = config.session
+
 -- the numbers are these
 pub record HasNumbers (clients segment threshold limit session : ℕ) (config : Config) : Type 0 where
-  pub clients_is : config.clients ≡ clients
-  pub segment_is : config.segment ≡ segment
-  pub threshold_is : config.threshold ≡ threshold
-  pub limit_is : config.limit ≡ limit
-  pub session_is : config.session ≡ session
+  pub clients_is : clients_of config ≡ clients
+  pub segment_is : segment_of config ≡ segment
+  pub threshold_is : threshold_of config ≡ threshold
+  pub limit_is : limit_of config ≡ limit
+  pub session_is : session_of config ≡ session

@@ -1,6 +1,11 @@
 -- The words of a client's open deliveries, and how they change.
-use Rattle.std.specs.Prelude.{◌≡◌, ◌≢◌, ◌↔◌, ◌⊎◌, ℕ, ◌+◌, ◌≤◌, true, List, [], Contains, AllPairs, length, map, slice_index_or}
+use Rattle.std.specs.Prelude.{◌≡◌, ◌≢◌, ◌↔◌, ◌⊎◌, ℕ, ◌+◌, ◌<◌, ◌≤◌, true, List, [], Contains, AllPairs, length, map, slice_index_or}
 use Rattle.cq_inbox.specs.declared.words.Word.{Word}
+
+-- a word is free for this delivery, which isn't open
+pub record IsFree (delivery : ℕ) (opened : List ℕ) : Type 0 where
+  pub room : length opened < 64
+  pub fresh : ¬ Contains opened delivery
 
 -- one more delivery is open
 pub record Joins (delivery : ℕ) (old new : List ℕ) : Type 0 where

@@ -18,7 +18,7 @@ pub struct Config {
 }
 
 impl Config {
-    ghost use Rattle.cq_inbox.specs.Config.{IsInRange, HasNumbers};
+    ghost use Rattle.cq_inbox.specs.Config.{IsInRange, HasNumbers, clients_of, segment_of, threshold_of, limit_of, session_of};
 
     /// The numbers of a node. `None` exactly where one is out of its range: 1 to 64 clients, 16 to 4096 entries in a
     /// segment, a threshold of 1 to 65,536 bytes, a shared file of 4096 to 16,777,216 bytes.
@@ -50,7 +50,7 @@ impl Config {
 
     /// How many clients the node has, from 1 to 64.
     pub fn clients(&self) -> u32
-        ensures same { result ≡ self.now.clients }
+        ensures same { result ≡ clients_of self.now }
         ensures in_range { (1 ≤ result) × (result ≤ 64) }
     {
         self.clients
@@ -58,7 +58,7 @@ impl Config {
 
     /// How many entries a segment of an index has, from 16 to 4096.
     pub fn segment(&self) -> u32
-        ensures same { result ≡ self.now.segment }
+        ensures same { result ≡ segment_of self.now }
         ensures in_range { (16 ≤ result) × (result ≤ 4096) }
     {
         self.segment
@@ -66,7 +66,7 @@ impl Config {
 
     /// A shorter body is small, in bytes, from 1 to 65,536.
     pub fn threshold(&self) -> u32
-        ensures same { result ≡ self.now.threshold }
+        ensures same { result ≡ threshold_of self.now }
         ensures in_range { (1 ≤ result) × (result ≤ 65536) }
     {
         self.threshold
@@ -74,7 +74,7 @@ impl Config {
 
     /// How long the content of a shared file may grow, in bytes, from 4096 to 16,777,216.
     pub fn limit(&self) -> u64
-        ensures same { result ≡ self.now.limit }
+        ensures same { result ≡ limit_of self.now }
         ensures in_range { (4096 ≤ result) × (result ≤ 16777216) }
     {
         self.limit
@@ -82,7 +82,7 @@ impl Config {
 
     /// The number of the session, from 0.
     pub fn session(&self) -> u32
-        ensures { result ≡ self.now.session }
+        ensures { result ≡ session_of self.now }
     {
         self.session
     }

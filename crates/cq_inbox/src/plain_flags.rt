@@ -40,9 +40,12 @@ impl PlainFlags {
     pub fn drop_delivery(&mut self, client: u32, delivery: u32) -> bool
         requires { client < length self.old }
         ensures clients { length self.new ≡ length self.old }
-        ensures cause { MatchBool result (Contains (opened_of self.old client) delivery × ¬ IsDroppedOf self.old client delivery) ((¬ Contains (opened_of self.old client) delivery) ⊎ IsDroppedOf self.old client delivery) }
+        ensures cause { MatchBool result (Contains (opened_of self.old client) delivery
+            × ¬ IsDroppedOf self.old client delivery) ((¬ Contains (opened_of self.old client) delivery)
+            ⊎ IsDroppedOf self.old client delivery) }
         ensures opened { (c : ℕ) → opened_of self.new c ≡ opened_of self.old c }
-        ensures dropped { OnTrue result ((d : ℕ) → IsDroppedOf self.new client d ↔ (IsDroppedOf self.old client d ⊎ (d ≡ delivery))) }
+        ensures dropped { OnTrue result ((d : ℕ)
+            → IsDroppedOf self.new client d ↔ (IsDroppedOf self.old client d ⊎ (d ≡ delivery))) }
         ensures same { OnFalse result (words_of self.new client ≡ words_of self.old client) }
         ensures others { (c : ℕ) → c ≢ client → words_of self.new c ≡ words_of self.old c }
     {

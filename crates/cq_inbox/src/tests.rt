@@ -4,7 +4,7 @@ ghost use Rattle.std.specs.Prelude.{◌≡◌, ◌<◌, length};
 use crate::{Config, Flags, Inbox, PlainFlags, PlainInbox, Request};
 use std::test::Fail;
 
-// Puts 64 requests of the client 0, and counts those that are held.
+/// Puts 64 requests of the client 0, and counts those that are held.
 fn fill(inbox: &mut PlainInbox) -> u32
     requires { 0 < length inbox.old }
     ensures { length inbox.new ≡ length inbox.old }

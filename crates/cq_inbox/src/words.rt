@@ -45,9 +45,10 @@ impl Words {
         })
     }
 
-    // The place of a delivery's word. `None` exactly where it isn't open.
+    /// The place of a delivery's word. `None` exactly where it isn't open.
     fn place(&self, delivery: u32) -> Option<usize>
-        ensures { MatchOption result (AllWithin (λ w. w.delivery ≢ delivery) self.now 0 (length self.now)) (λ i. (i < length self.now) × HoldsAt (λ w. w.delivery ≡ delivery) self.now i) }
+        ensures { MatchOption result (AllWithin (λ w. w.delivery ≢ delivery) self.now 0 (length self.now))
+            (λ i. (i < length self.now) × HoldsAt (λ w. w.delivery ≡ delivery) self.now i) }
     {
         self.words.iter().position(|word| word.delivery == delivery)
     }
@@ -79,7 +80,9 @@ impl Words {
 
     /// Drops a delivery. `false` exactly where it isn't open, or is dropped.
     pub fn drop_delivery(&mut self, delivery: u32) -> bool
-        ensures cause { MatchBool result (Contains (deliveries self.old) delivery × ¬ IsDropped self.old delivery) ((¬ Contains (deliveries self.old) delivery) ⊎ IsDropped self.old delivery) }
+        ensures cause { MatchBool result (Contains (deliveries self.old) delivery
+            × ¬ IsDropped self.old delivery) ((¬ Contains (deliveries self.old) delivery)
+            ⊎ IsDropped self.old delivery) }
         ensures opened { deliveries self.new ≡ deliveries self.old }
         ensures dropped { OnTrue result ((d : ℕ) → IsDropped self.new d ↔ (IsDropped self.old d ⊎ (d ≡ delivery))) }
         ensures same { OnFalse result (self.new ≡ self.old) }

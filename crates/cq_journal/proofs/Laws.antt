@@ -1,4 +1,5 @@
 -- Laws of a legal journal, whose entries stand with the newest first.
+use Rattle.cq_journal.specs.Lists.{HasDistinctIds}
 use Rattle.std.proofs.Common.{◌≡◌, ◌≢◌, ℕ, Bool, true, false, not, cond, List, [], ◌∷◌, ◌++◌, refl, sym, ap, ◌∙◌, subst, append-nil, length, length-append, ◌≤◌, arith}
 use Rattle.std.specs.Prelude.{◌==◌, ◌&&◌, ◌||◌, filter, map}
 use Rattle.std.specs.List.{list_any, AllByRecursion}
@@ -12,10 +13,10 @@ use Rattle.cq_journal.specs.declared.event.Entry.{Entry}
 use Rattle.cq_journal.specs.declared.lines.Line.{Line}
 use Rattle.cq_journal.specs.declared.event.Message.{Message}
 use Rattle.cq_journal.specs.History.{Delivery, has_id, opened_in, adds, line, is_delivery, open_after, open_deliveries, removes, acked, is_out, is_waiting, waiting}
-use Rattle.cq_journal.specs.Legal.{publishes, published, brings, has, IsFirst, AreLines, Allowed, Legal}
+use Rattle.cq_journal.specs.Legal.{publish_count, published, brings, has, IsFirst, AreLines, Allowed, Legal}
 use Rattle.cq_journal.specs.Asks.{body_of, ask, asks}
 use Rattle.cq_inbox.specs.declared.request.Request.TheVariants.{Publish}
-use Rattle.cq_journal.proofs.Lists.{HasDistinctIds, any-filter, filter-congr, filter-refine, filter-others, distinct-filter, body_of-kept}
+use Rattle.cq_journal.proofs.Lists.{any-filter, filter-congr, filter-refine, filter-others, distinct-filter, body_of-kept}
 
 -- ---- an id that no entry brought is nowhere
 
@@ -173,10 +174,10 @@ waiting-quiet past e q none kept same =
 
 -- ---- publishes are asked for
 
-publishes-asked : (e : Event) (c : ℕ) → publishes c e ≤ length (ask c e)
-publishes-asked (Published client number id queues body) c = elim (client == c) as (λ b. cond b 1 0 ≤ length (cond b (Publish queues body ∷ []) [])) [ true ↦ omega arith | false ↦ omega arith ]
-publishes-asked _ c = omega arith
+publish-asked : (e : Event) (c : ℕ) → publish_count c e ≤ length (ask c e)
+publish-asked (Published client number id queues body) c = elim (client == c) as (λ b. cond b 1 0 ≤ length (cond b (Publish queues body ∷ []) [])) [ true ↦ omega arith | false ↦ omega arith ]
+publish-asked _ c = omega arith
 
 pub published-asked : (past : List Entry) (c : ℕ) → published past c ≤ length (asks past c)
 published-asked [] c = omega arith
-published-asked (e ∷ past) c = omega (arith, published-asked past c, publishes-asked e.event c, length-append (asks past c) (ask c e.event))
+published-asked (e ∷ past) c = omega (arith, published-asked past c, publish-asked e.event c, length-append (asks past c) (ask c e.event))

@@ -5,12 +5,8 @@ use Rattle.std.specs.List.{list_any}
 use Rattle.std.proofs.lemmas.Bool.{or_parts, or_from, eqb-false, ne_eqb, eq-eqb, cond-true, cond-false}
 use Rattle.cq_journal.specs.declared.event.Message.{Message}
 use Rattle.cq_journal.specs.History.{has_id}
+use Rattle.cq_journal.specs.Lists.{HasDistinctIds}
 use Rattle.cq_journal.specs.Asks.{body_of}
-
--- no two messages have one id
-abbrev pub HasDistinctIds : List Message → Type 0
-HasDistinctIds [] = Unit {0}
-HasDistinctIds (m ∷ ms) = (has_id ms m.id ≡ false) × HasDistinctIds ms
 
 pub any-filter : {A : Type 0} (t p : A → Bool) (xs : List A) → list_any t xs ≡ false → list_any t (filter p xs) ≡ false
 any-filter t p [] h = refl

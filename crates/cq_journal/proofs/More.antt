@@ -5,6 +5,7 @@ use Rattle.std.specs.List.{list_any}
 use Rattle.std.proofs.lemmas.Bool.{or_parts, or_from, or_left, or_cases, and_parts, not-true, eqb-true, ne_eqb, eq-eqb, and_left, and_right, cases_Bool, cases_eq, both_ways}
 use Rattle.std.proofs.lemmas.List.Folds.{list_any-append}
 use Rattle.cq_bytes.specs.Numbers.{contains}
+use Rattle.cq_journal.specs.Lists.{HaveKeys}
 use Rattle.cq_journal.specs.declared.event.Event.{Event}
 use Rattle.cq_journal.specs.declared.event.Event.TheVariants.{Delivered, Acked, Dropped, Ended, Settled}
 use Rattle.cq_journal.specs.declared.event.Entry.{Entry}
@@ -210,10 +211,6 @@ settled-removed (e ∷ past) q x l h =
     ]
 
 -- ---- no two open deliveries have one client and number
-
-abbrev pub HaveKeys : List Delivery → Type 0
-HaveKeys [] = Unit {0}
-HaveKeys (d ∷ ds) = (list_any (is_delivery d.client d.number) ds ≡ false) × HaveKeys ds
 
 keys-push : (ds : List Delivery) (d : Delivery) → HaveKeys ds → list_any (is_delivery d.client d.number) ds ≡ false → HaveKeys (ds ++ d ∷ [])
 keys-push [] d a h = (refl, tt)

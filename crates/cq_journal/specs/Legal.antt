@@ -14,9 +14,9 @@ abbrev pub MOST_OPEN : ℕ
 MOST_OPEN = 64
 
 -- 1 where the event is a publish, or a delivery, of this client
-abbrev pub publishes : ℕ → Event → ℕ
-publishes c (Published client number id queues body) = if client == c then 1 else 0
-publishes c _ = 0
+abbrev pub publish_count : ℕ → Event → ℕ
+publish_count c (Published client number id queues body) = if client == c then 1 else 0
+publish_count c _ = 0
 
 abbrev pub delivers : ℕ → Event → ℕ
 delivers c (Delivered client number queue id) = if client == c then 1 else 0
@@ -25,7 +25,7 @@ delivers c _ = 0
 -- how many publishes, and deliveries, of a client stand there
 abbrev pub published : List Entry → ℕ → ℕ
 published [] c = 0
-published (e ∷ past) c = published past c + publishes c e.event
+published (e ∷ past) c = published past c + publish_count c e.event
 
 abbrev pub delivered : List Entry → ℕ → ℕ
 delivered [] c = 0

@@ -49,7 +49,8 @@ impl Lines {
 
     /// The queue, id and body of the message at a place, from 0. `None` exactly past the last.
     pub fn line(&self, index: usize) -> Option<(u32, u128, &[u8])>
-        ensures { MatchOption result (length self.now ≤ index) (λ l. slice_get self.now index ≡ Some (record { queue = l.0; id = l.1; body = l.2.now })) }
+        ensures { MatchOption result (length self.now ≤ index)
+            (λ l. slice_get self.now index ≡ Some (record { queue = l.0; id = l.1; body = l.2.now })) }
     {
         let line = self.items.get(index)?;
         Some((line.queue, line.id, line.body.bytes()))

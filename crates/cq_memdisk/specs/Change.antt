@@ -4,7 +4,7 @@ use Rattle.std.specs.Option.{option_map}
 use Rattle.std.specs.BTreeMap.{is_at}
 use Rattle.std.specs.declared.alloc.Global.{Global}
 use Rattle.cq_disk.specs.declared.name.Name.{Name}
-use Rattle.cq_disk.specs.Names.{name_cmp}
+use Rattle.cq_disk.specs.Names.{name_cmp, IsInRange}
 use Rattle.cq_disk.specs.File.{File, IsFileImage, overwritten, wrote, cut_to, synced_now, fresh, settled}
 use Rattle.cq_disk.specs.Files.{HasFile, HasRange, IsImage}
 use Rattle.cq_memdisk.specs.Folder.{IfThere}
@@ -97,7 +97,8 @@ FitsNow change = (at : ℕ) (bytes : Vec ℕ Global) → change ≡ Write at byt
 abbrev pub IsSoundAt : Change → File → Type 0
 IsSoundAt change f = change ≡ Sync → IsSound f
 
--- each write of a record fits, and each file was sound before each of its changes and is now
+-- each write of a record fits, each file was sound before each of its changes and is now, and each has a name in range
 pub record SoundHistory (notes : List Note) : Type 0 where
   pub fits : (k : ℕ) (d : Note) → k < length notes → FitsNow (get_or notes k d).change
   pub sound : (k : ℕ) (n : Name) (f : File) → files_of (take k notes) n ≡ Some f → IsSound f
+  pub named : (n : Name) (f : File) → files_of notes n ≡ Some f → IsInRange n

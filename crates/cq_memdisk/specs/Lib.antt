@@ -3,7 +3,7 @@ pub mod Counts
 pub mod Crash
 pub mod Folder
 pub mod Given
-pub mod Passed
+pub mod HandsOn
 pub mod Ranges
 pub mod Record
 pub mod Stored

@@ -10,7 +10,7 @@ use Rattle.std.proofs.lemmas.Bool.{cases_lt, cases_Bool, false≢true}
 use Rattle.std.proofs.lemmas.List.{length-take-le, length-append, take-append-le, take_all, get_or_append_left, get_or_push}
 use Rattle.std.proofs.lemmas.Bool.Decides.{nat_tests}
 use Rattle.cq_disk.specs.declared.name.Name.{Name}
-use Rattle.cq_disk.specs.Names.{name_cmp}
+use Rattle.cq_disk.specs.Names.{name_cmp, IsInRange}
 use Rattle.cq_disk.specs.NamesLemmas.{found_is, found_self, apart, distinct, names_total, exact_names}
 use Rattle.cq_disk.specs.File.{File, wrote, cut_to, synced_now, fresh, settled, IsWithin}
 use Rattle.cq_disk.specs.FileLemmas.{wrote_readable, cut_readable, settled_readable, wrote_within, cut_within, length-overwritten}
@@ -137,6 +137,17 @@ each_now notes since now t c past begun le is = record {
   shows = same_image (files_of notes) (files_at notes now) c (now_files now notes past) is;
 }
 
+-- what was left between two moments was left between earlier and later ones
+pub left_wider : (notes : List Note) (since now s t u v : ℕ) (c : Image) → s ≤ t → u ≤ v → LeftBetween notes since now t u c → LeftBetween notes since now s v c
+left_wider notes since now s t u v c from to left = record {
+  moment = left.moment;
+  from = omega (arith, from, left.from);
+  to = omega (arith, to, left.to);
+  later = left.later;
+  past = left.past;
+  shows = left.shows;
+}
+
 -- nothing is noted
 pub elapses_same : (old new : List Note) (since since' before now : ℕ) → before ≤ now → now ≡ min (before + 1) (2 ^ 64 - 1) → since' ≡ since → new ≡ old → Elapses before now (LeftBetween old since before) (LeftBetween new since' now)
 elapses_same old new since since' before now later next stays same =
@@ -233,8 +244,8 @@ same_next fs gs fs' gs' x same first second n = ⊎_elim
     (λ other. let o = distinct x.name n other in first.others n o ∙ same n ∙ sym (second.others n o))
     (cases_Bool (is_at (name_cmp x.name) n))
 
-pub noted : (notes : List Note) (bs cs : Name → Option (List ℕ)) (x : Note) (now : ℕ) → IsKept notes bs now → x.from ≤ now → CanChange x.change (files_of notes x.name) → HasBytes x.change → Fits x.change → Becomes x.name (rewritten x.change (bs x.name)) bs cs → IsKept (notes ++ x ∷ []) cs now
-noted notes bs cs x now old from can small fits becomes = record {
+pub noted : (notes : List Note) (bs cs : Name → Option (List ℕ)) (x : Note) (now : ℕ) → IsKept notes bs now → x.from ≤ now → CanChange x.change (files_of notes x.name) → HasBytes x.change → Fits x.change → IsInRange x.name → Becomes x.name (rewritten x.change (bs x.name)) bs cs → IsKept (notes ++ x ∷ []) cs now
+noted notes bs cs x now old from can small fits in_range becomes = record {
   kept = λ n. ⊎_elim
       (λ this.
       let is = found_is x.name n this in
@@ -254,6 +265,10 @@ noted notes bs cs x now old from can small fits becomes = record {
         (λ (before : k < length notes + 1). old.history.sound k n g (sym (ap (λ (l : List Note). files_of l n) (take-append-le k notes (x ∷ []) (omega (arith, before)))) ∙ is))
         (λ (all : length notes + 1 ≤ k). now_sound n g (sym (ap (λ (l : List Note). files_of l n) (take_all k (notes ++ x ∷ []) (omega (arith, all, length-append notes (x ∷ []))))) ∙ is))
         (cases_lt k (length notes + 1));
+    named = λ n g is. ⊎_elim
+        (λ this. subst IsInRange (sym (found_is x.name n this)) in_range)
+        (λ other. old.history.named n g (sym ((one_more notes x).others n (distinct x.name n other)) ∙ is))
+        (cases_Bool (is_at (name_cmp x.name) n));
   };
 }
   where
@@ -273,7 +288,7 @@ pub empty_kept : (notes : List Note) (stored : Name → Option (List ℕ)) (now 
 empty_kept notes stored now empty none = subst (λ (l : List Note). IsKept l stored now) (sym empty) (record {
   kept = λ n. sym (none n);
   past = λ k d lt. omega (arith, lt);
-  history = record { fits = λ k d lt. omega (arith, lt); sound = λ k n f is. none_is k n f is };
+  history = record { fits = λ k d lt. omega (arith, lt); sound = λ k n f is. none_is k n f is; named = λ n f is. cc };
 })
   where
     none_is : (k : ℕ) (n : Name) (f : File) → files_of (take k []) n ≡ Some f → IsSound f
@@ -282,9 +297,9 @@ empty_kept notes stored now empty none = subst (λ (l : List Note). IsKept l sto
 
 -- a call that may change one file keeps what holds
 pub stays_kept : {T E : Type 0} (result : Result T E) (notes notes' : List Note) (bs cs : Name → Option (List ℕ)) (x : Note) (now : ℕ) → IsKept notes bs now → x.from ≤ now → CanChange x.change (files_of notes x.name) → HasBytes x.change
-    → OnOk result (Becomes x.name (rewritten x.change (bs x.name)) bs cs) → OnOk result (Fits x.change) → OnOk result (notes' ≡ notes ++ x ∷ []) → OnErr result (SameFiles bs cs) → OnErr result (notes' ≡ notes) → IsKept notes' cs now
-stays_kept (Ok v) notes notes' bs cs x now old from can small ok fits is same is' = subst (λ (l : List Note). IsKept l cs now) (sym is) (noted notes bs cs x now old from can small fits ok)
-stays_kept (Err e) notes notes' bs cs x now old from can small ok fits is same is' = subst (λ (l : List Note). IsKept l cs now) (sym is') (record {
+    → OnOk result (Becomes x.name (rewritten x.change (bs x.name)) bs cs) → OnOk result (Fits x.change) → OnOk result (IsInRange x.name) → OnOk result (notes' ≡ notes ++ x ∷ []) → OnErr result (SameFiles bs cs) → OnErr result (notes' ≡ notes) → IsKept notes' cs now
+stays_kept (Ok v) notes notes' bs cs x now old from can small ok fits in_range is same is' = subst (λ (l : List Note). IsKept l cs now) (sym is) (noted notes bs cs x now old from can small fits in_range ok)
+stays_kept (Err e) notes notes' bs cs x now old from can small ok fits in_range is same is' = subst (λ (l : List Note). IsKept l cs now) (sym is') (record {
   kept = λ n. old.kept n ∙ sym (same n);
   past = old.past;
   history = old.history;

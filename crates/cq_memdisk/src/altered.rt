@@ -1,11 +1,12 @@
 // A disk for tests that gives other bytes than it was written.
-ghost use Rattle.std.specs.Prelude.{◌≡◌, ◌+◌, ◌-◌, ◌%◌, ◌^◌, ◌≤◌, ◌<◌, [], ◌↔◌, None, Some, min, length, slice_index, EachIndex, OnOk, OnErr, IfOk, IfSome, IsErr, IsErrOf, IsTrue, IsFalse};
+ghost use Rattle.std.specs.Prelude.{◌≡◌, ◌+◌, ◌-◌, ◌%◌, ◌^◌, ◌≤◌, ◌<◌, [], ◌↔◌, All, None, Some, min, length, slice_index, EachIndex, OnOk, OnErr, IfOk, IfSome, IsErr, IsErrOf, IsTrue, IsFalse};
 ghost use Rattle.cq_disk.specs.declared.disk.DiskError.TheVariants.{Fault as disk_fault};
 ghost use Rattle.cq_disk.specs.File.{wrote, cut_to, synced_now, fresh};
 ghost use Rattle.cq_disk.specs.Files.{Becomes, Changes, SameFiles, HasFile, HasRange, LenIs, NamesAre};
+ghost use Rattle.cq_disk.specs.Names.{IsInRange};
 ghost use Rattle.cq_disk.specs.Rose.{Rose};
 ghost use Rattle.cq_disk.specs.Call.{Elapses, Caused, CausedOf, StruckBy, StruckByOf, AfterFuse, KeepsPlan};
-ghost use Rattle.cq_memdisk.specs.Change.{files_of};
+ghost use Rattle.cq_memdisk.specs.Counts.{files_in};
 ghost use Rattle.cq_memdisk.specs.Given.{given, GivesAltered};
 
 use crate::disk::MemDisk;
@@ -38,7 +39,7 @@ impl Altered {
         }
     }
 
-    // A call that failed.
+    /// A call that failed.
     fn fault(&mut self) -> Fault
         ensures disk { self.new.disk ≡ self.old.disk }
         ensures moment { self.new.moment ≡ self.old.moment }
@@ -49,7 +50,7 @@ impl Altered {
         Fault
     }
 
-    // Counts a call, which fails at the last moment.
+    /// Counts a call, which fails at the last moment.
     fn count_call(&mut self) -> Result<(), Fault>
         ensures disk { self.new.disk ≡ self.old.disk }
         ensures failed { OnErr result (self.old.moment ≡ 2 ^ 64 - 1) }
@@ -66,9 +67,9 @@ impl Altered {
         Ok(())
     }
 
-    // Whether a file is there and has this range.
+    /// Whether a file is there and has this range.
     fn has_range(&self, name: Name, at: u64, len: usize) -> bool
-        ensures { IsTrue result ↔ HasRange (files_of self.now.disk.notes.items name) at len }
+        ensures { IsTrue result ↔ HasRange (files_in self.now.disk name) at len }
     {
         match self.disk.bytes(name) {
             Some(bytes) => {
@@ -79,16 +80,16 @@ impl Altered {
         }
     }
 
-    // Whether a file is there.
+    /// Whether a file is there.
     fn has(&self, name: Name) -> bool
-        ensures there { IsTrue result ↔ HasFile (files_of self.now.disk.notes.items name) }
-        ensures absent { IsFalse result → files_of self.now.disk.notes.items name ≡ None }
+        ensures there { IsTrue result ↔ HasFile (files_in self.now.disk name) }
+        ensures absent { IsFalse result → files_in self.now.disk name ≡ None }
     {
         self.disk.bytes(name).is_some()
     }
 }
 
-// What is given of the bytes of a file of this kind.
+/// What is given of the bytes of a file of this kind.
 fn alter(kind: Kind, bytes: &mut [u8])
     ensures len { length bytes.new ≡ length bytes.old }
     ensures given { EachIndex bytes.new (λ k. slice_index bytes.new k ≡ given kind (slice_index bytes.old k)) }
@@ -99,7 +100,7 @@ fn alter(kind: Kind, bytes: &mut [u8])
     }
 }
 
-// Each byte one higher, 255 as 0.
+/// Each byte one higher, 255 as 0.
 fn raise(bytes: &mut [u8])
     ensures len { length bytes.new ≡ length bytes.old }
     ensures raised { EachIndex bytes.new (λ k. slice_index bytes.new k ≡ (slice_index bytes.old k + 1) % 256) }
@@ -110,7 +111,7 @@ fn raise(bytes: &mut [u8])
 }
 
 impl Disk for Altered {
-    ghost use Rattle.cq_memdisk.specs.Passed.{Passed};
+    ghost use Rattle.cq_memdisk.specs.HandsOn.{AlteredCalled, HandsOn};
 
     ghost tells = { ⊥ };
 
@@ -132,7 +133,11 @@ impl Disk for Altered {
 
     ghost now_each = { λ told d t image le is. absurd told };
 
+    ghost wider = { λ told d s t u v image from to past left. absurd told };
+
     ghost reads_left = { λ told d name f is. absurd told };
+
+    ghost named = { λ told d name f is. absurd told };
 
     ghost short = { λ told d name f is. absurd told };
 
@@ -145,15 +150,12 @@ impl Disk for Altered {
     }
 
     fn list(&mut self, alloc: Global) -> Result<Vec<Name>, DiskError>
-        ensures within { IfOk result (λ names. NamesAre (files_of self.old.disk.notes.items) names.items) }
-        ensures kept { SameFiles (files_of self.old.disk.notes.items) (files_of self.new.disk.notes.items) }
-        ensures passed { Passed self.old self.new result (IsErrOf result disk_fault) (Unit {0}) }
-        ensures in_time { OnOk result (self.old.moment < 2 ^ 64 - 1) }
+        ensures within { IfOk result (λ names. NamesAre (files_in self.old.disk) names.items) }
+        ensures in_range { IfOk result (λ names. All IsInRange names.items) }
+        ensures kept { SameFiles (files_in self.old.disk) (files_in self.new.disk) }
+        ensures passed { HandsOn self.old self.new result (IsErrOf result disk_fault) (Unit {0}) }
         ensures time { Elapses self.old.moment self.new.moment (λ t u image. ⊥) (λ t u image. ⊥) }
-        ensures cause { CausedOf disk_fault self.old.faults self.new.faults result }
-        ensures strike { StruckByOf disk_fault None self.old.moment self.old.faults self.new.faults result }
-        ensures spent { AfterFuse None self.old.moment self.old.faults self.new.faults self.old.faults self.new.faults (IsErrOf result disk_fault) }
-        ensures plan { KeepsPlan None [] None [] }
+        ensures called { AlteredCalled self.old self.new result (IsErrOf result disk_fault) }
     {
         if self.count_call().is_err() {
             return Err(DiskError::Fault);
@@ -169,16 +171,12 @@ impl Disk for Altered {
     }
 
     fn len(&mut self, name: Name) -> Result<Option<u64>, Fault>
-        ensures within { IfOk result (λ len. LenIs (files_of self.old.disk.notes.items name) len) }
+        ensures within { IfOk result (λ len. LenIs (files_in self.old.disk name) len) }
         ensures longest { IfOk result (λ len. IfSome len (λ n. n ≤ 2 ^ 62)) }
-        ensures kept { SameFiles (files_of self.old.disk.notes.items) (files_of self.new.disk.notes.items) }
-        ensures passed { Passed self.old self.new result (IsErr result) (Unit {0}) }
-        ensures in_time { OnOk result (self.old.moment < 2 ^ 64 - 1) }
+        ensures kept { SameFiles (files_in self.old.disk) (files_in self.new.disk) }
+        ensures passed { HandsOn self.old self.new result (IsErr result) (Unit {0}) }
         ensures time { Elapses self.old.moment self.new.moment (λ t u image. ⊥) (λ t u image. ⊥) }
-        ensures cause { Caused self.old.faults self.new.faults result }
-        ensures strike { StruckBy None self.old.moment self.old.faults self.new.faults result }
-        ensures spent { AfterFuse None self.old.moment self.old.faults self.new.faults self.old.faults self.new.faults (IsErr result) }
-        ensures plan { KeepsPlan None [] None [] }
+        ensures called { AlteredCalled self.old self.new result (IsErr result) }
     {
         self.count_call()?;
         match self.disk.len(name) {
@@ -188,15 +186,12 @@ impl Disk for Altered {
     }
 
     fn read(&mut self, name: Name, at: u64, into: &mut [u8]) -> Result<(), Fault>
-        ensures within { OnOk result (GivesAltered name.kind (files_of self.old.disk.notes.items name) at into.new) }
-        ensures kept { SameFiles (files_of self.old.disk.notes.items) (files_of self.new.disk.notes.items) }
-        ensures passed { Passed self.old self.new result (IsErr result) (HasRange (files_of self.old.disk.notes.items name) at (length into.old)) }
-        ensures in_time { OnOk result (self.old.moment < 2 ^ 64 - 1) }
+        ensures within { OnOk result (GivesAltered name.kind (files_in self.old.disk name) at into.new) }
+        ensures kept { SameFiles (files_in self.old.disk) (files_in self.new.disk) }
+        ensures passed { HandsOn self.old self.new result (IsErr result)
+            (HasRange (files_in self.old.disk name) at (length into.old)) }
         ensures time { Elapses self.old.moment self.new.moment (λ t u image. ⊥) (λ t u image. ⊥) }
-        ensures cause { Caused self.old.faults self.new.faults result }
-        ensures strike { StruckBy None self.old.moment self.old.faults self.new.faults result }
-        ensures spent { AfterFuse None self.old.moment self.old.faults self.new.faults self.old.faults self.new.faults (IsErr result) }
-        ensures plan { KeepsPlan None [] None [] }
+        ensures called { AlteredCalled self.old self.new result (IsErr result) }
     {
         self.count_call()?;
         if !self.has_range(name, at, into.len()) || self.disk.read(name, at, into).is_err() {
@@ -207,15 +202,12 @@ impl Disk for Altered {
     }
 
     fn write(&mut self, name: Name, at: u64, bytes: &[u8]) -> Result<(), Fault>
-        ensures within { OnOk result (Changes name (wrote at bytes.now) (files_of self.old.disk.notes.items) (files_of self.new.disk.notes.items)) }
+        ensures within { OnOk result
+            (Changes name (wrote at bytes.now) (files_in self.old.disk) (files_in self.new.disk)) }
         ensures fits { OnOk result (at + length bytes.now ≤ 2 ^ 62) }
-        ensures passed { Passed self.old self.new result (IsErr result) (HasRange (files_of self.old.disk.notes.items name) at 0) }
-        ensures in_time { OnOk result (self.old.moment < 2 ^ 64 - 1) }
+        ensures passed { HandsOn self.old self.new result (IsErr result) (HasRange (files_in self.old.disk name) at 0) }
         ensures time { Elapses self.old.moment self.new.moment (λ t u image. ⊥) (λ t u image. ⊥) }
-        ensures cause { Caused self.old.faults self.new.faults result }
-        ensures strike { StruckBy None self.old.moment self.old.faults self.new.faults result }
-        ensures spent { AfterFuse None self.old.moment self.old.faults self.new.faults self.old.faults self.new.faults (IsErr result) }
-        ensures plan { KeepsPlan None [] None [] }
+        ensures called { AlteredCalled self.old self.new result (IsErr result) }
     {
         self.count_call()?;
         if !self.has_range(name, at, 0) {
@@ -228,14 +220,10 @@ impl Disk for Altered {
     }
 
     fn cut(&mut self, name: Name, len: u64) -> Result<(), Fault>
-        ensures within { OnOk result (Changes name (cut_to len) (files_of self.old.disk.notes.items) (files_of self.new.disk.notes.items)) }
-        ensures passed { Passed self.old self.new result (IsErr result) (HasRange (files_of self.old.disk.notes.items name) len 0) }
-        ensures in_time { OnOk result (self.old.moment < 2 ^ 64 - 1) }
+        ensures within { OnOk result (Changes name (cut_to len) (files_in self.old.disk) (files_in self.new.disk)) }
+        ensures passed { HandsOn self.old self.new result (IsErr result) (HasRange (files_in self.old.disk name) len 0) }
         ensures time { Elapses self.old.moment self.new.moment (λ t u image. ⊥) (λ t u image. ⊥) }
-        ensures cause { Caused self.old.faults self.new.faults result }
-        ensures strike { StruckBy None self.old.moment self.old.faults self.new.faults result }
-        ensures spent { AfterFuse None self.old.moment self.old.faults self.new.faults self.old.faults self.new.faults (IsErr result) }
-        ensures plan { KeepsPlan None [] None [] }
+        ensures called { AlteredCalled self.old self.new result (IsErr result) }
     {
         self.count_call()?;
         if !self.has_range(name, len, 0) || self.disk.cut(name, len).is_err() {
@@ -245,14 +233,10 @@ impl Disk for Altered {
     }
 
     fn sync(&mut self, name: Name) -> Result<(), Fault>
-        ensures within { OnOk result (Changes name synced_now (files_of self.old.disk.notes.items) (files_of self.new.disk.notes.items)) }
-        ensures passed { Passed self.old self.new result (IsErr result) (HasFile (files_of self.old.disk.notes.items name)) }
-        ensures in_time { OnOk result (self.old.moment < 2 ^ 64 - 1) }
+        ensures within { OnOk result (Changes name synced_now (files_in self.old.disk) (files_in self.new.disk)) }
+        ensures passed { HandsOn self.old self.new result (IsErr result) (HasFile (files_in self.old.disk name)) }
         ensures time { Elapses self.old.moment self.new.moment (λ t u image. ⊥) (λ t u image. ⊥) }
-        ensures cause { Caused self.old.faults self.new.faults result }
-        ensures strike { StruckBy None self.old.moment self.old.faults self.new.faults result }
-        ensures spent { AfterFuse None self.old.moment self.old.faults self.new.faults self.old.faults self.new.faults (IsErr result) }
-        ensures plan { KeepsPlan None [] None [] }
+        ensures called { AlteredCalled self.old self.new result (IsErr result) }
     {
         self.count_call()?;
         if !self.has(name) || self.disk.sync(name).is_err() {
@@ -262,14 +246,10 @@ impl Disk for Altered {
     }
 
     fn create(&mut self, name: Name) -> Result<(), Fault>
-        ensures within { OnOk result (Becomes name (Some fresh) (files_of self.old.disk.notes.items) (files_of self.new.disk.notes.items)) }
-        ensures passed { Passed self.old self.new result (IsErr result) (files_of self.old.disk.notes.items name ≡ None) }
-        ensures in_time { OnOk result (self.old.moment < 2 ^ 64 - 1) }
+        ensures within { OnOk result (Becomes name (Some fresh) (files_in self.old.disk) (files_in self.new.disk)) }
+        ensures passed { HandsOn self.old self.new result (IsErr result) (files_in self.old.disk name ≡ None) }
         ensures time { Elapses self.old.moment self.new.moment (λ t u image. ⊥) (λ t u image. ⊥) }
-        ensures cause { Caused self.old.faults self.new.faults result }
-        ensures strike { StruckBy None self.old.moment self.old.faults self.new.faults result }
-        ensures spent { AfterFuse None self.old.moment self.old.faults self.new.faults self.old.faults self.new.faults (IsErr result) }
-        ensures plan { KeepsPlan None [] None [] }
+        ensures called { AlteredCalled self.old self.new result (IsErr result) }
     {
         self.count_call()?;
         if self.has(name) || self.disk.create(name).is_err() {
@@ -279,14 +259,10 @@ impl Disk for Altered {
     }
 
     fn remove(&mut self, name: Name) -> Result<(), Fault>
-        ensures within { OnOk result (Becomes name None (files_of self.old.disk.notes.items) (files_of self.new.disk.notes.items)) }
-        ensures passed { Passed self.old self.new result (IsErr result) (HasFile (files_of self.old.disk.notes.items name)) }
-        ensures in_time { OnOk result (self.old.moment < 2 ^ 64 - 1) }
+        ensures within { OnOk result (Becomes name None (files_in self.old.disk) (files_in self.new.disk)) }
+        ensures passed { HandsOn self.old self.new result (IsErr result) (HasFile (files_in self.old.disk name)) }
         ensures time { Elapses self.old.moment self.new.moment (λ t u image. ⊥) (λ t u image. ⊥) }
-        ensures cause { Caused self.old.faults self.new.faults result }
-        ensures strike { StruckBy None self.old.moment self.old.faults self.new.faults result }
-        ensures spent { AfterFuse None self.old.moment self.old.faults self.new.faults self.old.faults self.new.faults (IsErr result) }
-        ensures plan { KeepsPlan None [] None [] }
+        ensures called { AlteredCalled self.old self.new result (IsErr result) }
     {
         self.count_call()?;
         if !self.has(name) || self.disk.remove(name).is_err() {

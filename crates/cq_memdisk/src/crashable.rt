@@ -26,10 +26,15 @@ pub trait Crashable: Disk {
     /// n - 2 in each byte that waits for a sync. From 258 on the i-th file in the order of names, from 0, is as for 1
     /// where bit i modulo 32 of n - 258 is set, and else as for 0. Where memory is refused nothing changes.
     fn crash(&mut self, n: u64) -> Result<(), AllocError>
-        ensures image { OnOk result ((names : List Name) × NamesAre (Self.files self.old) names × Crashed n names (Self.files self.old) (Self.files self.new)) }
-        ensures left { OnOk result (Self.left self.old (Self.moment self.old) (Self.moment self.old) (image_of (Self.files self.new))) }
+        ensures image { OnOk result
+            ((names : List Name) × NamesAre (Self.files self.old) names
+            × Crashed n names (Self.files self.old) (Self.files self.new)) }
+        ensures left { OnOk result
+            (Self.left self.old (Self.moment self.old) (Self.moment self.old) (image_of (Self.files self.new))) }
         ensures fuse { OnOk result (Self.fuse self.new ≡ None) }
-        ensures err { OnErr result ((Self.fuse self.new ≡ Self.fuse self.old) × SameFiles (Self.files self.old) (Self.files self.new) × SameLeft (Self.left self.old) (Self.left self.new)) }
+        ensures err { OnErr result
+            ((Self.fuse self.new ≡ Self.fuse self.old) × SameFiles (Self.files self.old) (Self.files self.new)
+            × SameLeft (Self.left self.old) (Self.left self.new)) }
         ensures moment { Self.moment self.new ≡ Self.moment self.old }
         ensures faults { Self.faults self.new ≡ Self.faults self.old }
         ensures struck { Self.struck self.new ≡ Self.struck self.old }

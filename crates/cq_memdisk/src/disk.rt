@@ -1,16 +1,17 @@
 // The disk in memory.
-ghost use Rattle.std.specs.Prelude.{◌≡◌, ◌⊎◌, ◌<◌, ◌≤◌, ◌+◌, ◌-◌, ◌^◌, List, ℕ, Some, None, Option, min, length, get_or, [], ◌∷◌, ◌++◌, Contains, OnOk, OnErr, IsErr, IsErrOf, IfOk, IfSome, IsTrue, ◌↔◌};
+ghost use Rattle.std.specs.Prelude.{◌≡◌, ◌⊎◌, ◌<◌, ◌≤◌, ◌+◌, ◌-◌, ◌^◌, List, ℕ, Some, None, Option, min, length, get_or, [], ◌∷◌, ◌++◌, All, Contains, OnOk, OnErr, IsErr, IsErrOf, IfOk, IfSome, IsTrue, ◌↔◌};
 ghost use Rattle.std.specs.Option.{option_map};
 ghost use Rattle.cq_memdisk.specs.declared.change.Note.{Note};
 ghost use Rattle.cq_disk.specs.declared.name.Name.{Name};
 ghost use Rattle.cq_disk.specs.declared.disk.DiskError.TheVariants.{Fault as disk_fault};
 ghost use Rattle.cq_disk.specs.File.{File, settled, wrote, cut_to, synced_now, fresh};
 ghost use Rattle.cq_disk.specs.Files.{Becomes, BecomesOrNot, Changes, ChangesWithin, SameFiles, HasFile, HasRange, LenIs, Reads, NamesAre};
+ghost use Rattle.cq_disk.specs.Names.{IsInRange};
 ghost use Rattle.cq_disk.specs.Rose.{Rose};
 ghost use Rattle.cq_disk.specs.Call.{Elapses, Caused, CausedOf, StruckBy, StruckByOf, AfterFuse, BeforeFuse, KeepsPlan};
 ghost use Rattle.cq_memdisk.specs.Crash.{SameLeftBefore};
 ghost use Rattle.cq_memdisk.specs.Folder.{bytes_of};
-ghost use Rattle.cq_memdisk.specs.Record.{only_now, each_now, reads_of, sound_now};
+ghost use Rattle.cq_memdisk.specs.Record.{only_now, each_now, left_wider, reads_of, sound_now};
 ghost use Rattle.cq_memdisk.specs.Change.{changed, rewritten, CanChange, CanWrite, HasBytes, Fits, SoundHistory, files_of, LeftBetween};
 
 use crate::change::{Change, Note};
@@ -52,7 +53,7 @@ pub struct MemDisk {
 }
 
 impl MemDisk {
-    ghost use Rattle.cq_memdisk.specs.Counts.{Counted};
+    ghost use Rattle.cq_memdisk.specs.Counts.{Counted, files_in, KeepsCounts, KeepsFaults, KeepsFiles, MemCalled, Refuses, Ticks};
 
     /// A disk with no files. The calls whose moment before the call stands in `fails` answer Fault and do nothing.
     pub fn new(alloc: Global, fails: Vec<u64>) -> MemDisk
@@ -78,19 +79,21 @@ impl MemDisk {
         }
     }
 
-    /// How many growths this disk was refused. It never falls, and stays at its last value.
+    /// How many growths this disk was refused, or files with a name out of range. It never falls, and stays at its last value.
     ///
     /// Where no call is planned to fail and the moment is below its last value, these are all faults but those past a fuse.
     pub fn refused(&self) -> u64
         ensures value { result ≡ self.now.refused }
-        ensures struck { ⟦<MemDisk as Disk>⟧.planned self.now ≡ [] → ⟦<MemDisk as Disk>⟧.moment self.now < 2 ^ 64 - 1 → result ≡ ⟦<MemDisk as Disk>⟧.struck self.now }
+        ensures struck { ⟦<MemDisk as Disk>⟧.planned self.now ≡ [] → ⟦<MemDisk as Disk>⟧.moment self.now < 2 ^ 64 - 1
+            → result ≡ ⟦<MemDisk as Disk>⟧.struck self.now }
     {
         self.refused
     }
 
     /// A file's bytes as they read; None exactly where the file isn't there.
     pub fn bytes(&self, name: Name) -> Option<&[u8]>
-        ensures { option_map (λ bytes. bytes.now) result ≡ option_map (λ f. f.reads) (⟦<MemDisk as Disk>⟧.files self.now name) }
+        ensures { option_map (λ bytes. bytes.now) result ≡ option_map
+            (λ f. f.reads) (⟦<MemDisk as Disk>⟧.files self.now name) }
     {
         match self.files.get(&name) {
             Some(file) => Some(file.as_slice()),
@@ -99,17 +102,17 @@ impl MemDisk {
     }
 
     /// Puts a file there, all of it on the disk. It is no call of the device, and changes nothing of what a crash before
-    /// now may have left. Where memory is refused nothing changes.
+    /// now may have left. Where memory is refused nothing changes; a name out of range is refused likewise.
     pub fn load(&mut self, name: Name, bytes: &[u8]) -> Result<(), AllocError>
         requires { length bytes.now ≤ 2 ^ 62 }
-        ensures ok { OnOk result (Becomes name (Some (settled bytes.now)) (⟦<MemDisk as Disk>⟧.files self.old) (⟦<MemDisk as Disk>⟧.files self.new)) }
-        ensures err { OnErr result (SameFiles (⟦<MemDisk as Disk>⟧.files self.old) (⟦<MemDisk as Disk>⟧.files self.new)) }
-        ensures moment { ⟦<MemDisk as Disk>⟧.moment self.new ≡ ⟦<MemDisk as Disk>⟧.moment self.old }
-        ensures faults { ⟦<MemDisk as Disk>⟧.faults self.new ≡ ⟦<MemDisk as Disk>⟧.faults self.old }
-        ensures struck { ⟦<MemDisk as Disk>⟧.struck self.new ≡ ⟦<MemDisk as Disk>⟧.struck self.old }
-        ensures refused { self.new.refused ≡ self.old.refused }
-        ensures left { SameLeftBefore (⟦<MemDisk as Disk>⟧.moment self.old) (⟦<MemDisk as Disk>⟧.left self.old) (⟦<MemDisk as Disk>⟧.left self.new) }
-        ensures plan { KeepsPlan (⟦<MemDisk as Disk>⟧.fuse self.old) (⟦<MemDisk as Disk>⟧.planned self.old) (⟦<MemDisk as Disk>⟧.fuse self.new) (⟦<MemDisk as Disk>⟧.planned self.new) }
+        ensures ok { OnOk result
+            (Becomes name (Some (settled bytes.now)) (⟦<MemDisk as Disk>⟧.files self.old)
+            (⟦<MemDisk as Disk>⟧.files self.new)) }
+        ensures err { OnErr result
+            (SameFiles (⟦<MemDisk as Disk>⟧.files self.old) (⟦<MemDisk as Disk>⟧.files self.new)) }
+        ensures counts { KeepsCounts self.old self.new }
+        ensures left { SameLeftBefore (⟦<MemDisk as Disk>⟧.moment self.old) (⟦<MemDisk as Disk>⟧.left self.old)
+            (⟦<MemDisk as Disk>⟧.left self.new) }
     {
         let note = Note {
             from: self.moment,
@@ -119,48 +122,35 @@ impl MemDisk {
         perform(&mut self.files, &mut self.notes, self.alloc, note)
     }
 
-    // Time goes on by one call.
+    /// Time goes on by one call.
     fn tick(&mut self) -> u64
         ensures value { result ≡ self.old.moment }
-        ensures files { self.new.files ≡ self.old.files }
-        ensures notes { self.new.notes ≡ self.old.notes }
-        ensures since { self.new.since ≡ self.old.since }
-        ensures counts { (self.new.faults ≡ self.old.faults) × (self.new.struck ≡ self.old.struck) × (self.new.refused ≡ self.old.refused) }
-        ensures plan { KeepsPlan self.old.fuse self.old.fails.items self.new.fuse self.new.fails.items }
-        ensures moment { self.new.moment ≡ min (self.old.moment + 1) (2 ^ 64 - 1) }
-        ensures later { self.old.moment ≤ self.new.moment }
-        ensures time { Elapses self.old.moment self.new.moment (LeftBetween self.old.notes.items self.old.since self.old.moment)
-            (LeftBetween self.new.notes.items self.new.since self.new.moment) }
+        ensures files { KeepsFiles self.old self.new }
+        ensures faults { KeepsFaults self.old self.new }
+        ensures time { Ticks self.old self.new }
     {
         let now = self.moment;
         self.moment = now.saturating_add(1);
         now
     }
 
-    // Whether the call at a moment is made to fail.
+    /// Whether the call at a moment is made to fail.
     fn is_planned(&self, now: u64) -> bool
         ensures { IsTrue result ↔ Contains self.now.fails.items now }
     {
         self.fails.contains(&now)
     }
 
-    // Counts a call, and fails it past the fuse, at the moments that are to fail, and at the last one.
+    /// Counts a call, and fails it past the fuse, at the moments that are to fail, and at the last one.
     fn count_call(&mut self) -> Result<(), Fault>
-        ensures files { self.new.files ≡ self.old.files }
-        ensures notes { self.new.notes ≡ self.old.notes }
-        ensures since { self.new.since ≡ self.old.since }
+        ensures files { KeepsFiles self.old self.new }
         ensures refused { self.new.refused ≡ self.old.refused }
-        ensures moment { self.new.moment ≡ min (self.old.moment + 1) (2 ^ 64 - 1) }
-        ensures later { self.old.moment ≤ self.new.moment }
-        ensures in_time { OnOk result (self.old.moment < 2 ^ 64 - 1) }
-        ensures time { Elapses self.old.moment self.new.moment (LeftBetween self.old.notes.items self.old.since self.old.moment)
-            (LeftBetween self.new.notes.items self.new.since self.new.moment) }
-        ensures cause { Caused self.old.faults self.new.faults result }
-        ensures strike { StruckBy self.old.fuse self.old.moment self.old.struck self.new.struck result }
-        ensures spent { AfterFuse self.old.fuse self.old.moment self.old.faults self.new.faults self.old.struck self.new.struck (IsErr result) }
-        ensures plan { KeepsPlan self.old.fuse self.old.fails.items self.new.fuse self.new.fails.items }
+        ensures time { Ticks self.old self.new }
+        ensures called { MemCalled self.old self.new result (IsErr result) }
         ensures counts { Counted self.old self.new result (IsErr result) }
-        ensures failed { OnErr result (BeforeFuse self.old.fuse self.old.moment → self.old.moment < 2 ^ 64 - 1 → Contains self.old.fails.items self.old.moment) }
+        ensures failed { OnErr result
+            (BeforeFuse self.old.fuse self.old.moment → self.old.moment < 2 ^ 64 - 1
+            → Contains self.old.fails.items self.old.moment) }
     {
         let now = self.tick();
         if self.fuse.is_some_and(|fuse| fuse <= now) {
@@ -175,20 +165,10 @@ impl MemDisk {
         Ok(())
     }
 
-    // A growth was refused.
+    /// A growth was refused, or a file with a name out of range.
     fn refuse(&mut self) -> Fault
-        ensures files { self.new.files ≡ self.old.files }
-        ensures notes { self.new.notes ≡ self.old.notes }
-        ensures since { self.new.since ≡ self.old.since }
-        ensures moment { self.new.moment ≡ self.old.moment }
-        ensures faults { self.new.faults ≡ min (self.old.faults + 1) (2 ^ 64 - 1) }
-        ensures faults_later { self.old.faults ≤ self.new.faults }
-        ensures struck { self.new.struck ≡ min (self.old.struck + 1) (2 ^ 64 - 1) }
-        ensures struck_later { self.old.struck ≤ self.new.struck }
-        ensures refused { self.new.refused ≡ min (self.old.refused + 1) (2 ^ 64 - 1) }
-        ensures refused_later { self.old.refused ≤ self.new.refused }
-        ensures saturated { self.new.refused ≡ self.old.refused → (self.new.faults ≡ self.old.faults) × (self.new.struck ≡ self.old.struck) }
-        ensures plan { KeepsPlan self.old.fuse self.old.fails.items self.new.fuse self.new.fails.items }
+        ensures files { KeepsFiles self.old self.new }
+        ensures counts { Refuses self.old self.new }
     {
         self.faults = self.faults.saturating_add(1);
         self.struck = self.struck.saturating_add(1);
@@ -196,36 +176,28 @@ impl MemDisk {
         Fault
     }
 
-    // A call for which there is no memory.
+    /// A call for which there is no memory.
     fn refuse_call(&mut self) -> Result<(), Fault>
         ensures err { IsErr result }
-        ensures fault { SameFiles (files_of self.old.notes.items) (files_of self.new.notes.items) }
-        ensures time { Elapses self.old.moment self.new.moment (LeftBetween self.old.notes.items self.old.since self.old.moment)
-            (LeftBetween self.new.notes.items self.new.since self.new.moment) }
-        ensures cause { Caused self.old.faults self.new.faults result }
-        ensures strike { StruckBy self.old.fuse self.old.moment self.old.struck self.new.struck result }
-        ensures spent { AfterFuse self.old.fuse self.old.moment self.old.faults self.new.faults self.old.struck self.new.struck (IsErr result) }
-        ensures plan { KeepsPlan self.old.fuse self.old.fails.items self.new.fuse self.new.fails.items }
+        ensures fault { SameFiles (files_in self.old) (files_in self.new) }
+        ensures time { Ticks self.old self.new }
+        ensures called { MemCalled self.old self.new result (IsErr result) }
         ensures counts { Counted self.old self.new result (IsErr result) }
     {
         self.count_call()?;
         Err(self.refuse())
     }
 
-    // A call that changes one file.
+    /// A call that changes one file.
     fn change(&mut self, name: Name, change: Change) -> Result<(), Fault>
-        requires can { CanChange change (files_of self.old.notes.items name) }
+        requires can { CanChange change (files_in self.old name) }
         requires bytes { HasBytes change }
-        ensures ok { OnOk result (Becomes name (changed change (files_of self.old.notes.items name)) (files_of self.old.notes.items) (files_of self.new.notes.items)) }
+        ensures ok { OnOk result
+            (Becomes name (changed change (files_in self.old name)) (files_in self.old) (files_in self.new)) }
         ensures fits { OnOk result (Fits change) }
-        ensures fault { OnErr result (SameFiles (files_of self.old.notes.items) (files_of self.new.notes.items)) }
-        ensures in_time { OnOk result (self.old.moment < 2 ^ 64 - 1) }
-        ensures time { Elapses self.old.moment self.new.moment (LeftBetween self.old.notes.items self.old.since self.old.moment)
-            (LeftBetween self.new.notes.items self.new.since self.new.moment) }
-        ensures cause { Caused self.old.faults self.new.faults result }
-        ensures strike { StruckBy self.old.fuse self.old.moment self.old.struck self.new.struck result }
-        ensures spent { AfterFuse self.old.fuse self.old.moment self.old.faults self.new.faults self.old.struck self.new.struck (IsErr result) }
-        ensures plan { KeepsPlan self.old.fuse self.old.fails.items self.new.fuse self.new.fails.items }
+        ensures fault { OnErr result (SameFiles (files_in self.old) (files_in self.new)) }
+        ensures time { Ticks self.old self.new }
+        ensures called { MemCalled self.old self.new result (IsErr result) }
         ensures counts { Counted self.old self.new result (IsErr result) }
     {
         self.count_call()?;
@@ -242,7 +214,7 @@ impl MemDisk {
 }
 
 impl Disk for MemDisk {
-    ghost use Rattle.cq_memdisk.specs.Counts.{Counted};
+    ghost use Rattle.cq_memdisk.specs.Counts.{Counted, files_in, MemCalled, Ticks};
 
     ghost tells = { Unit {0} };
 
@@ -264,7 +236,11 @@ impl Disk for MemDisk {
 
     ghost now_each = { λ told d t image le is. each_now d.notes.items d.since d.moment t image d.past d.begun le is };
 
+    ghost wider = { λ told d s t u v image from to past left. left_wider d.notes.items d.since d.moment s t u v image from to left };
+
     ghost reads_left = { λ told d name f is. (sound_now d.notes.items d.history name f is).readable };
+
+    ghost named = { λ told d name f is. d.history.named name f is };
 
     ghost short = { λ told d name f is. (sound_now d.notes.items d.history name f is).short };
 
@@ -277,14 +253,11 @@ impl Disk for MemDisk {
     }
 
     fn list(&mut self, alloc: Global) -> Result<Vec<Name>, DiskError>
-        ensures names { IfOk result (λ names. NamesAre (files_of self.old.notes.items) names.items) }
-        ensures files { SameFiles (files_of self.old.notes.items) (files_of self.new.notes.items) }
-        ensures in_time { OnOk result (self.old.moment < 2 ^ 64 - 1) }
-        ensures time { Elapses self.old.moment self.new.moment (LeftBetween self.old.notes.items self.old.since self.old.moment) (LeftBetween self.new.notes.items self.new.since self.new.moment) }
-        ensures cause { CausedOf disk_fault self.old.faults self.new.faults result }
-        ensures strike { StruckByOf disk_fault self.old.fuse self.old.moment self.old.struck self.new.struck result }
-        ensures spent { AfterFuse self.old.fuse self.old.moment self.old.faults self.new.faults self.old.struck self.new.struck (IsErrOf result disk_fault) }
-        ensures plan { KeepsPlan self.old.fuse self.old.fails.items self.new.fuse self.new.fails.items }
+        ensures names { IfOk result (λ names. NamesAre (files_in self.old) names.items) }
+        ensures in_range { IfOk result (λ names. All IsInRange names.items) }
+        ensures files { SameFiles (files_in self.old) (files_in self.new) }
+        ensures time { Ticks self.old self.new }
+        ensures called { MemCalled self.old self.new result (IsErrOf result disk_fault) }
         ensures counts { Counted self.old self.new result (IsErrOf result disk_fault) }
     {
         if self.count_call().is_err() {
@@ -297,15 +270,11 @@ impl Disk for MemDisk {
     }
 
     fn len(&mut self, name: Name) -> Result<Option<u64>, Fault>
-        ensures len { IfOk result (λ len. LenIs (files_of self.old.notes.items name) len) }
+        ensures len { IfOk result (λ len. LenIs (files_in self.old name) len) }
         ensures longest { IfOk result (λ len. IfSome len (λ n. n ≤ 2 ^ 62)) }
-        ensures files { SameFiles (files_of self.old.notes.items) (files_of self.new.notes.items) }
-        ensures in_time { OnOk result (self.old.moment < 2 ^ 64 - 1) }
-        ensures time { Elapses self.old.moment self.new.moment (LeftBetween self.old.notes.items self.old.since self.old.moment) (LeftBetween self.new.notes.items self.new.since self.new.moment) }
-        ensures cause { Caused self.old.faults self.new.faults result }
-        ensures strike { StruckBy self.old.fuse self.old.moment self.old.struck self.new.struck result }
-        ensures spent { AfterFuse self.old.fuse self.old.moment self.old.faults self.new.faults self.old.struck self.new.struck (IsErr result) }
-        ensures plan { KeepsPlan self.old.fuse self.old.fails.items self.new.fuse self.new.fails.items }
+        ensures files { SameFiles (files_in self.old) (files_in self.new) }
+        ensures time { Ticks self.old self.new }
+        ensures called { MemCalled self.old self.new result (IsErr result) }
         ensures counts { Counted self.old self.new result (IsErr result) }
     {
         self.count_call()?;
@@ -316,15 +285,11 @@ impl Disk for MemDisk {
     }
 
     fn read(&mut self, name: Name, at: u64, into: &mut [u8]) -> Result<(), Fault>
-        requires { HasRange (files_of self.old.notes.items name) at (length into.old) }
-        ensures bytes { OnOk result (Reads (files_of self.old.notes.items name) at into.new) }
-        ensures files { SameFiles (files_of self.old.notes.items) (files_of self.new.notes.items) }
-        ensures in_time { OnOk result (self.old.moment < 2 ^ 64 - 1) }
-        ensures time { Elapses self.old.moment self.new.moment (LeftBetween self.old.notes.items self.old.since self.old.moment) (LeftBetween self.new.notes.items self.new.since self.new.moment) }
-        ensures cause { Caused self.old.faults self.new.faults result }
-        ensures strike { StruckBy self.old.fuse self.old.moment self.old.struck self.new.struck result }
-        ensures spent { AfterFuse self.old.fuse self.old.moment self.old.faults self.new.faults self.old.struck self.new.struck (IsErr result) }
-        ensures plan { KeepsPlan self.old.fuse self.old.fails.items self.new.fuse self.new.fails.items }
+        requires { HasRange (files_in self.old name) at (length into.old) }
+        ensures bytes { OnOk result (Reads (files_in self.old name) at into.new) }
+        ensures files { SameFiles (files_in self.old) (files_in self.new) }
+        ensures time { Ticks self.old self.new }
+        ensures called { MemCalled self.old self.new result (IsErr result) }
         ensures counts { Counted self.old self.new result (IsErr result) }
     {
         self.count_call()?;
@@ -336,17 +301,13 @@ impl Disk for MemDisk {
     }
 
     fn write(&mut self, name: Name, at: u64, bytes: &[u8]) -> Result<(), Fault>
-        requires { HasRange (files_of self.old.notes.items name) at 0 }
-        ensures ok { OnOk result (Changes name (wrote at bytes.now) (files_of self.old.notes.items) (files_of self.new.notes.items)) }
-        ensures fault { OnErr result (ChangesWithin name (wrote at bytes.now) (files_of self.old.notes.items) (files_of self.new.notes.items)) }
+        requires { HasRange (files_in self.old name) at 0 }
+        ensures ok { OnOk result (Changes name (wrote at bytes.now) (files_in self.old) (files_in self.new)) }
+        ensures fault { OnErr result (ChangesWithin name (wrote at bytes.now) (files_in self.old) (files_in self.new)) }
         ensures fits { OnOk result (at + length bytes.now ≤ 2 ^ 62) }
-        ensures in_time { OnOk result (self.old.moment < 2 ^ 64 - 1) }
-        ensures time { Elapses self.old.moment self.new.moment (LeftBetween self.old.notes.items self.old.since self.old.moment) (LeftBetween self.new.notes.items self.new.since self.new.moment) }
-        ensures cause { Caused self.old.faults self.new.faults result }
-        ensures strike { StruckBy self.old.fuse self.old.moment self.old.struck self.new.struck result }
-        ensures spent { AfterFuse self.old.fuse self.old.moment self.old.faults self.new.faults self.old.struck self.new.struck (IsErr result) }
-        ensures plan { KeepsPlan self.old.fuse self.old.fails.items self.new.fuse self.new.fails.items }
-        ensures unchanged { OnErr result (SameFiles (files_of self.old.notes.items) (files_of self.new.notes.items)) }
+        ensures time { Ticks self.old self.new }
+        ensures called { MemCalled self.old self.new result (IsErr result) }
+        ensures unchanged { OnErr result (SameFiles (files_in self.old) (files_in self.new)) }
         ensures counts { Counted self.old self.new result (IsErr result) }
     {
         match bytes.to_vec(self.alloc) {
@@ -356,64 +317,48 @@ impl Disk for MemDisk {
     }
 
     fn sync(&mut self, name: Name) -> Result<(), Fault>
-        requires { HasFile (files_of self.old.notes.items name) }
-        ensures ok { OnOk result (Changes name synced_now (files_of self.old.notes.items) (files_of self.new.notes.items)) }
-        ensures fault { OnErr result (ChangesWithin name (λ f. f) (files_of self.old.notes.items) (files_of self.new.notes.items)) }
-        ensures in_time { OnOk result (self.old.moment < 2 ^ 64 - 1) }
-        ensures time { Elapses self.old.moment self.new.moment (LeftBetween self.old.notes.items self.old.since self.old.moment) (LeftBetween self.new.notes.items self.new.since self.new.moment) }
-        ensures cause { Caused self.old.faults self.new.faults result }
-        ensures strike { StruckBy self.old.fuse self.old.moment self.old.struck self.new.struck result }
-        ensures spent { AfterFuse self.old.fuse self.old.moment self.old.faults self.new.faults self.old.struck self.new.struck (IsErr result) }
-        ensures plan { KeepsPlan self.old.fuse self.old.fails.items self.new.fuse self.new.fails.items }
-        ensures unchanged { OnErr result (SameFiles (files_of self.old.notes.items) (files_of self.new.notes.items)) }
+        requires { HasFile (files_in self.old name) }
+        ensures ok { OnOk result (Changes name synced_now (files_in self.old) (files_in self.new)) }
+        ensures fault { OnErr result (ChangesWithin name (λ f. f) (files_in self.old) (files_in self.new)) }
+        ensures time { Ticks self.old self.new }
+        ensures called { MemCalled self.old self.new result (IsErr result) }
+        ensures unchanged { OnErr result (SameFiles (files_in self.old) (files_in self.new)) }
         ensures counts { Counted self.old self.new result (IsErr result) }
     {
         self.change(name, Change::Sync)
     }
 
     fn cut(&mut self, name: Name, len: u64) -> Result<(), Fault>
-        requires { HasRange (files_of self.old.notes.items name) len 0 }
-        ensures ok { OnOk result (Changes name (cut_to len) (files_of self.old.notes.items) (files_of self.new.notes.items)) }
-        ensures fault { OnErr result (ChangesWithin name (cut_to len) (files_of self.old.notes.items) (files_of self.new.notes.items)) }
-        ensures in_time { OnOk result (self.old.moment < 2 ^ 64 - 1) }
-        ensures time { Elapses self.old.moment self.new.moment (LeftBetween self.old.notes.items self.old.since self.old.moment) (LeftBetween self.new.notes.items self.new.since self.new.moment) }
-        ensures cause { Caused self.old.faults self.new.faults result }
-        ensures strike { StruckBy self.old.fuse self.old.moment self.old.struck self.new.struck result }
-        ensures spent { AfterFuse self.old.fuse self.old.moment self.old.faults self.new.faults self.old.struck self.new.struck (IsErr result) }
-        ensures plan { KeepsPlan self.old.fuse self.old.fails.items self.new.fuse self.new.fails.items }
-        ensures unchanged { OnErr result (SameFiles (files_of self.old.notes.items) (files_of self.new.notes.items)) }
+        requires { HasRange (files_in self.old name) len 0 }
+        ensures ok { OnOk result (Changes name (cut_to len) (files_in self.old) (files_in self.new)) }
+        ensures fault { OnErr result (ChangesWithin name (cut_to len) (files_in self.old) (files_in self.new)) }
+        ensures time { Ticks self.old self.new }
+        ensures called { MemCalled self.old self.new result (IsErr result) }
+        ensures unchanged { OnErr result (SameFiles (files_in self.old) (files_in self.new)) }
         ensures counts { Counted self.old self.new result (IsErr result) }
     {
         self.change(name, Change::Cut(len))
     }
 
     fn create(&mut self, name: Name) -> Result<(), Fault>
-        requires { files_of self.old.notes.items name ≡ None }
-        ensures ok { OnOk result (Becomes name (Some fresh) (files_of self.old.notes.items) (files_of self.new.notes.items)) }
-        ensures fault { OnErr result (BecomesOrNot name (Some fresh) (files_of self.old.notes.items) (files_of self.new.notes.items)) }
-        ensures in_time { OnOk result (self.old.moment < 2 ^ 64 - 1) }
-        ensures time { Elapses self.old.moment self.new.moment (LeftBetween self.old.notes.items self.old.since self.old.moment) (LeftBetween self.new.notes.items self.new.since self.new.moment) }
-        ensures cause { Caused self.old.faults self.new.faults result }
-        ensures strike { StruckBy self.old.fuse self.old.moment self.old.struck self.new.struck result }
-        ensures spent { AfterFuse self.old.fuse self.old.moment self.old.faults self.new.faults self.old.struck self.new.struck (IsErr result) }
-        ensures plan { KeepsPlan self.old.fuse self.old.fails.items self.new.fuse self.new.fails.items }
-        ensures unchanged { OnErr result (SameFiles (files_of self.old.notes.items) (files_of self.new.notes.items)) }
+        requires { files_in self.old name ≡ None }
+        ensures ok { OnOk result (Becomes name (Some fresh) (files_in self.old) (files_in self.new)) }
+        ensures fault { OnErr result (BecomesOrNot name (Some fresh) (files_in self.old) (files_in self.new)) }
+        ensures time { Ticks self.old self.new }
+        ensures called { MemCalled self.old self.new result (IsErr result) }
+        ensures unchanged { OnErr result (SameFiles (files_in self.old) (files_in self.new)) }
         ensures counts { Counted self.old self.new result (IsErr result) }
     {
         self.change(name, Change::Create)
     }
 
     fn remove(&mut self, name: Name) -> Result<(), Fault>
-        requires { HasFile (files_of self.old.notes.items name) }
-        ensures ok { OnOk result (Becomes name None (files_of self.old.notes.items) (files_of self.new.notes.items)) }
-        ensures fault { OnErr result (BecomesOrNot name None (files_of self.old.notes.items) (files_of self.new.notes.items)) }
-        ensures in_time { OnOk result (self.old.moment < 2 ^ 64 - 1) }
-        ensures time { Elapses self.old.moment self.new.moment (LeftBetween self.old.notes.items self.old.since self.old.moment) (LeftBetween self.new.notes.items self.new.since self.new.moment) }
-        ensures cause { Caused self.old.faults self.new.faults result }
-        ensures strike { StruckBy self.old.fuse self.old.moment self.old.struck self.new.struck result }
-        ensures spent { AfterFuse self.old.fuse self.old.moment self.old.faults self.new.faults self.old.struck self.new.struck (IsErr result) }
-        ensures plan { KeepsPlan self.old.fuse self.old.fails.items self.new.fuse self.new.fails.items }
-        ensures unchanged { OnErr result (SameFiles (files_of self.old.notes.items) (files_of self.new.notes.items)) }
+        requires { HasFile (files_in self.old name) }
+        ensures ok { OnOk result (Becomes name None (files_in self.old) (files_in self.new)) }
+        ensures fault { OnErr result (BecomesOrNot name None (files_in self.old) (files_in self.new)) }
+        ensures time { Ticks self.old self.new }
+        ensures called { MemCalled self.old self.new result (IsErr result) }
+        ensures unchanged { OnErr result (SameFiles (files_in self.old) (files_in self.new)) }
         ensures counts { Counted self.old self.new result (IsErr result) }
     {
         self.change(name, Change::Remove)

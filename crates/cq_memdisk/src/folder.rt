@@ -13,7 +13,7 @@ use std::collections::BTreeMap;
 
 pub type Folder = BTreeMap<Name, Vec<u8>>;
 
-// Writes over a file's bytes from a place on, and past its end. A refused growth changes nothing.
+/// Writes over a file's bytes from a place on, and past its end. A refused growth changes nothing.
 pub(crate) fn overwrite(file: &mut Vec<u8>, at: usize, bytes: &[u8]) -> Result<(), AllocError>
     requires { at ≤ length file.old.items }
     ensures ok { OnOk result (file.new.items ≡ overwritten file.old.items at bytes.now) }
@@ -25,9 +25,12 @@ pub(crate) fn overwrite(file: &mut Vec<u8>, at: usize, bytes: &[u8]) -> Result<(
     Ok(())
 }
 
+/// Writes over a file that is there, where memory suffices; else nothing changes.
 pub fn write(files: &mut Folder, name: Name, at: u64, bytes: &[u8]) -> Result<(), AllocError>
     requires { IfThere (bytes_of files.old name) (λ old. at ≤ length old) }
-    ensures ok { OnOk result (Becomes name (option_map (λ old. overwritten old at bytes.now) (bytes_of files.old name)) (bytes_of files.old) (bytes_of files.new)) }
+    ensures ok { OnOk result
+        (Becomes name (option_map (λ old. overwritten old at bytes.now) (bytes_of files.old name)) (bytes_of files.old)
+        (bytes_of files.new)) }
     ensures err { OnErr result (SameFiles (bytes_of files.old) (bytes_of files.new)) }
 {
     match files.get_mut(&name) {
@@ -36,14 +39,17 @@ pub fn write(files: &mut Folder, name: Name, at: u64, bytes: &[u8]) -> Result<()
     }
 }
 
+/// Cuts a file that is there to a length.
 pub fn cut(files: &mut Folder, name: Name, len: u64)
-    ensures { Becomes name (option_map (λ old. take len old) (bytes_of files.old name)) (bytes_of files.old) (bytes_of files.new) }
+    ensures { Becomes name (option_map (λ old. take len old) (bytes_of files.old name)) (bytes_of files.old)
+        (bytes_of files.new) }
 {
     if let Some(file) = files.get_mut(&name) {
         file.truncate(len as usize);
     }
 }
 
+/// Makes an empty file, where memory suffices; else nothing changes.
 pub fn create(files: &mut Folder, alloc: Global, name: Name) -> Result<(), AllocError>
     ensures ok { OnOk result (Becomes name (Some []) (bytes_of files.old) (bytes_of files.new)) }
     ensures err { OnErr result (SameFiles (bytes_of files.old) (bytes_of files.new)) }
@@ -52,13 +58,14 @@ pub fn create(files: &mut Folder, alloc: Global, name: Name) -> Result<(), Alloc
     Ok(())
 }
 
+/// Removes a file.
 pub fn remove(files: &mut Folder, name: Name)
     ensures { Becomes name None (bytes_of files.old) (bytes_of files.new) }
 {
     files.remove(&name);
 }
 
-// Puts a file with these bytes there.
+/// Puts a file with these bytes there.
 pub fn load(files: &mut Folder, alloc: Global, name: Name, bytes: &[u8]) -> Result<(), AllocError>
     ensures ok { OnOk result (Becomes name (Some bytes.now) (bytes_of files.old) (bytes_of files.new)) }
     ensures err { OnErr result (SameFiles (bytes_of files.old) (bytes_of files.new)) }
@@ -67,7 +74,7 @@ pub fn load(files: &mut Folder, alloc: Global, name: Name, bytes: &[u8]) -> Resu
     Ok(())
 }
 
-// The names, in order.
+/// The names, in order.
 pub fn names(files: &Folder, alloc: Global) -> Result<Vec<Name>, AllocError>
     ensures names { IfOk result (λ names. names.items ≡ keys files.now) }
     ensures ordered { IsOrdered name_cmp files.now }

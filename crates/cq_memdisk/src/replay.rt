@@ -20,11 +20,12 @@ use std::collections::BTreeMap;
 
 pub(crate) type States = BTreeMap<Name, Stored>;
 
-// Makes a change to one file.
+/// Makes a change to one file.
 fn apply(states: &mut States, alloc: Global, name: Name, change: &Change) -> Result<(), AllocError>
     requires fits { FitsNow change.now }
     requires sound { (f : File) → stored_of states.old name ≡ Some f → IsSoundAt change.now f }
-    ensures { OnOk result (Becomes name (changed change.now (stored_of states.old name)) (stored_of states.old) (stored_of states.new)) }
+    ensures { OnOk result
+        (Becomes name (changed change.now (stored_of states.old name)) (stored_of states.old) (stored_of states.new)) }
 {
     match change {
         Change::Write(at, bytes) => match states.get_mut(&name) {
@@ -56,7 +57,7 @@ fn apply(states: &mut States, alloc: Global, name: Name, change: &Change) -> Res
     }
 }
 
-// The files that a record leads to.
+/// The files that a record leads to.
 pub(crate) fn replay(alloc: Global, notes: &[Note]) -> Result<States, AllocError>
     requires { SoundHistory notes.now }
     ensures { IfOk result (λ states. (n : Name) → stored_of states n ≡ files_of notes.now n) }
@@ -68,7 +69,7 @@ pub(crate) fn replay(alloc: Global, notes: &[Note]) -> Result<States, AllocError
     Ok(states)
 }
 
-// Puts image n of one file there.
+/// Puts image n of one file there.
 fn load_image(
     files: &mut Folder,
     notes: &mut Vec<Note>,
@@ -83,7 +84,8 @@ fn load_image(
     requires sound { (f : File) → stored_of states.now name ≡ Some f → IsSound f }
     requires kept { IsKept notes.old.items (bytes_of files.old) now }
     ensures kept { OnOk result (IsKept notes.new.items (bytes_of files.new) now) }
-    ensures image { OnOk result (BecameImage n place name (stored_of states.now) (files_of notes.old.items) (files_of notes.new.items)) }
+    ensures image { OnOk result
+        (BecameImage n place name (stored_of states.now) (files_of notes.old.items) (files_of notes.new.items)) }
 {
     match states.get(&name) {
         Some(state) => {
@@ -98,7 +100,7 @@ fn load_image(
     }
 }
 
-// The bytes and the record of image n of the files that these states are of.
+/// The bytes and the record of image n of the files that these states are of.
 #[tactic(none)]
 pub(crate) fn rebuild(
     alloc: Global,
@@ -110,7 +112,8 @@ pub(crate) fn rebuild(
     requires names { NamesAre (stored_of states.now) names.items }
     requires sound { (m : Name) (f : File) → stored_of states.now m ≡ Some f → IsSound f }
     ensures kept { IfOk result (λ made. IsKept made.1.items (bytes_of made.0) now) }
-    ensures crashed { IfOk result (λ made. CrashedFirst n (length names.items) names.items (stored_of states.now) (files_of made.1.items)) }
+    ensures crashed { IfOk result
+        (λ made. CrashedFirst n (length names.items) names.items (stored_of states.now) (files_of made.1.items)) }
 {
     let mut files = BTreeMap::new(alloc);
     let mut notes = Vec::new(alloc);

@@ -7,12 +7,13 @@ ghost use Rattle.cq_memdisk.specs.Crash.{bit_of};
 use crate::folder;
 use std::alloc::{AllocError, Global};
 
+/// A file while a record of calls is replayed: how it reads, and what a crash may leave of it.
 #[derive(Drop)]
 pub(crate) struct Stored {
     alloc: Global,
     bytes: Vec<u8>,
     synced: Vec<u8>,
-    // The ranges written since the last sync, the oldest first.
+    /// The ranges written since the last sync, the oldest first.
     written: Vec<(u64, u64)>,
     least: u64,
     most: u64,
@@ -23,7 +24,7 @@ impl Stored {
     ghost use Rattle.cq_memdisk.specs.Change.{IsSound};
     ghost use Rattle.cq_memdisk.specs.Crash.{IsNumbered, IsFilled};
 
-    // A new file.
+    /// A new file.
     pub(crate) fn new(alloc: Global) -> Stored
         ensures { file_of result ≡ fresh }
     {
@@ -37,7 +38,7 @@ impl Stored {
         }
     }
 
-    // A file with these bytes, all of them on the disk.
+    /// A file with these bytes, all of them on the disk.
     pub(crate) fn settled(alloc: Global, bytes: &[u8]) -> Result<Stored, AllocError>
         ensures { IfOk result (λ s. file_of s ≡ settled bytes.now) }
     {
@@ -51,7 +52,7 @@ impl Stored {
         })
     }
 
-    // Writes over what is there, and past the end.
+    /// Writes over what is there, and past the end.
     pub(crate) fn write(&mut self, at: u64, bytes: &[u8]) -> Result<(), AllocError>
         requires { at + length bytes.now ≤ 2 ^ 62 }
         ensures { OnOk result (file_of self.new ≡ wrote at bytes.now (file_of self.old)) }
@@ -63,7 +64,7 @@ impl Stored {
         Ok(())
     }
 
-    // Cuts the file to a length.
+    /// Cuts the file to a length.
     pub(crate) fn cut(&mut self, len: u64)
         ensures { file_of self.new ≡ cut_to len (file_of self.old) }
     {
@@ -71,7 +72,7 @@ impl Stored {
         self.least = self.least.min(len);
     }
 
-    // Makes sure of what is there: what was written below the least length, and all bytes past it.
+    /// Makes sure of what is there: what was written below the least length, and all bytes past it.
     pub(crate) fn sync(&mut self) -> Result<(), AllocError>
         requires { IsSound (file_of self.old) }
         ensures { OnOk result (file_of self.new ≡ synced_now (file_of self.old)) }
@@ -85,7 +86,7 @@ impl Stored {
         Ok(())
     }
 
-    // The bytes of image n, where this is the file at this place in the order of names.
+    /// The bytes of image n, where this is the file at this place in the order of names.
     pub(crate) fn image(&self, n: u64, place: usize) -> Result<Vec<u8>, AllocError>
         requires { IsSound (file_of self.now) }
         ensures { IfOk result (λ bytes. IsNumbered n place (file_of self.now) bytes.items) }
@@ -99,7 +100,7 @@ impl Stored {
         self.filled((n - 2) as u8)
     }
 
-    // The largest length, with this byte in each place that waits for a sync.
+    /// The largest length, with this byte in each place that waits for a sync.
     fn filled(&self, byte: u8) -> Result<Vec<u8>, AllocError>
         requires { IsSound (file_of self.now) }
         ensures { IfOk result (λ bytes. IsFilled byte (file_of self.now) bytes.items) }
@@ -113,7 +114,7 @@ impl Stored {
     }
 }
 
-// Whether bit `place` modulo 32 of a mask is set.
+/// Whether bit `place` modulo 32 of a mask is set.
 fn bit(mask: u64, place: usize) -> bool
     ensures { IsTrue result ↔ (bit_of mask place ≡ 1) }
 {
@@ -121,7 +122,7 @@ fn bit(mask: u64, place: usize) -> bool
     mask / (1 << shift) % 2 == 1
 }
 
-// Cuts a list of bytes at a place, and goes on as another does from there on.
+/// Cuts a list of bytes at a place, and goes on as another does from there on.
 fn extend_from(to: &mut Vec<u8>, from: &[u8], at: usize) -> Result<(), AllocError>
     requires { at ≤ length from.now }
     ensures { OnOk result (to.new.items ≡ take at to.old.items ++ drop at from.now) }
@@ -130,7 +131,7 @@ fn extend_from(to: &mut Vec<u8>, from: &[u8], at: usize) -> Result<(), AllocErro
     to.extend_from_slice(&from[at..])
 }
 
-// The front of a list of bytes, and one byte again and again up to a length.
+/// The front of a list of bytes, and one byte again and again up to a length.
 fn padded(
     alloc: Global,
     from: &[u8],
@@ -146,7 +147,7 @@ fn padded(
     Ok(bytes)
 }
 
-// Copies the bytes from a place up to another.
+/// Copies the bytes from a place up to another.
 fn copy_part(to: &mut Vec<u8>, from: &[u8], start: usize, stop: usize)
     requires order { start ≤ stop }
     requires inside { stop ≤ length to.old.items }
@@ -156,7 +157,7 @@ fn copy_part(to: &mut Vec<u8>, from: &[u8], start: usize, stop: usize)
     to[start..stop].copy_from_slice(&from[start..stop]);
 }
 
-// Copies the bytes of one range that stand below an end.
+/// Copies the bytes of one range that stand below an end.
 fn copy_range(to: &mut Vec<u8>, from: &[u8], at: u64, len: u64, end: usize)
     requires lens { length to.old.items ≡ length from.now }
     requires within { end ≤ length from.now }
@@ -167,7 +168,7 @@ fn copy_range(to: &mut Vec<u8>, from: &[u8], at: u64, len: u64, end: usize)
     copy_part(to, from, start, stop);
 }
 
-// Copies the bytes in these ranges that stand below an end.
+/// Copies the bytes in these ranges that stand below an end.
 fn copy_ranges(to: &mut Vec<u8>, from: &[u8], ranges: &[(u64, u64)], end: usize)
     requires lens { length to.old.items ≡ length from.now }
     requires within { end ≤ length from.now }

@@ -21,7 +21,7 @@ const OTHER: Name = Name {
     number: 1,
 };
 
-// Makes a file with the bytes 1, 2, 9, 8, by a write over a part of what was there and past its end.
+/// Makes a file with the bytes 1, 2, 9, 8, by a write over a part of what was there and past its end.
 fn put<D: Disk>(disk: &mut D, name: Name) -> Result<(), Fault>
     requires { D.tells → D.files disk.old name ≡ None }
     ensures { OnOk result (D.tells → Among (D.files disk.new name) (λ f. f ≡ settled (1 ∷ 2 ∷ 9 ∷ 8 ∷ []))) }
@@ -79,8 +79,8 @@ fn a_planned_call_fails(rt: HostRuntime) -> Result<(), Fail> {
     Ok(())
 }
 
-// An index with the synced bytes 5 6, of which 5 was written over with 9; and a small store with the synced bytes
-// 1 2 3 4, of which 2 was written over with 9, then cut to 3 bytes and written to 5.
+/// An index with the synced bytes 5 6, of which 5 was written over with 9; and a small store with the synced bytes
+/// 1 2 3 4, of which 2 was written over with 9, then cut to 3 bytes and written to 5.
 fn pending(alloc: Global) -> Result<MemDisk, Fail> {
     let mut disk = MemDisk::new(alloc, Vec::new(alloc));
     disk.load(OTHER, &[5, 6])?;
@@ -93,7 +93,7 @@ fn pending(alloc: Global) -> Result<MemDisk, Fail> {
     Ok(disk)
 }
 
-// Images by their number, as the index and the small store read then.
+/// Images by their number, as the index and the small store read then.
 const IMAGES: [(u64, &[u8], &[u8]); 13] = [
     (0, &[5, 6], &[1, 2, 3, 4]),
     (1, &[9, 6], &[1, 9, 3, 7, 8]),

@@ -9,8 +9,8 @@ use std::marker::Model;
 /// of values.
 #[derive(Drop)]
 pub(crate) struct Greatest {
-    // A node has the greater of its two children's values. Node 1 is the root, those of node n are 2 n and 2 n + 1, and
-    // the values stand in the last half of the nodes.
+    /// A node has the greater of its two children's values. Node 1 is the root, those of node n are 2 n and 2 n + 1, and
+    /// the values stand in the last half of the nodes.
     nodes: Vec<u64>,
     levels: usize,
 }

@@ -27,7 +27,9 @@ fn end(records: &[Move]) -> u64
 fn holes(alloc: Global, records: &[Move]) -> Result<(Vec<u64>, Vec<u64>), AllocError>
     requires spaced { AreSpaced 128 records.now }
     requires below { AreBelow records.now }
-    ensures { IfOk result (λ (starts, sizes). (starts.items ≡ starts_before 128 records.now) × (sizes.items ≡ sizes_before 128 records.now)) }
+    ensures { IfOk result
+        (λ (starts, sizes). (starts.items ≡ starts_before 128 records.now)
+        × (sizes.items ≡ sizes_before 128 records.now)) }
 {
     let mut starts = Vec::new(alloc);
     let mut sizes = Vec::new(alloc);

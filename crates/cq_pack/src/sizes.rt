@@ -18,7 +18,7 @@ const PLACES: u128 = 1 << 64;
 pub(crate) struct Sizes {
     sizes: Vec<u64>,
     greatest: Greatest,
-    // For each hole its size and its place in the order, as one number.
+    /// For each hole its size and its place in the order, as one number.
     keys: BTreeSet<u128>,
 }
 

@@ -1,15 +1,15 @@
 // How often, and whether, an event of some kind stands in a history.
 ghost use Rattle.std.specs.Prelude.{◌≡◌, ◌==◌, ◌≤◌, reverse, IfOk};
 ghost use Rattle.std.specs.List.{list_any};
-ghost use Rattle.cq_journal.specs.Legal.{publishes, delivers, published, delivered, has, brings, is_publish, is_confirmed_by, is_dropped_by};
+ghost use Rattle.cq_journal.specs.Legal.{publish_count, delivers, published, delivered, has, brings, is_publish, is_confirmed_by, is_dropped_by};
 
 use crate::opened::listed;
 use cq_journal::{Entry, Event, Line};
 use std::alloc::{AllocError, Global};
 
 /// 1 where the event is a publish of the client, and else 0.
-fn publishes(client: u32, event: &Event) -> usize
-    ensures same { result ≡ publishes client event.now }
+fn publish_count(client: u32, event: &Event) -> usize
+    ensures same { result ≡ publish_count client event.now }
     ensures small { result ≤ 1 }
 {
     match event {
@@ -35,7 +35,7 @@ pub(crate) fn published(entries: &[Entry], client: u32) -> usize
 {
     let mut count = 0;
     for entry in entries {
-        count += publishes(client, &entry.event);
+        count += publish_count(client, &entry.event);
     }
     count
 }

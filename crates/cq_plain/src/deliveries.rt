@@ -130,7 +130,8 @@ fn push_named(
     client: u32,
     number: u32,
 ) -> Result<(), AllocError>
-    ensures { OnOk result (removed.new.items ≡ removed.old.items ++ map (λ d. d.id) (filter (λ d. is_delivery client number d && d.queue == queue) out.now)) }
+    ensures { OnOk result (removed.new.items ≡ removed.old.items ++ map
+        (λ d. d.id) (filter (λ d. is_delivery client number d && d.queue == queue) out.now)) }
 {
     for handed in out {
         if handed.is_delivery(client, number) && handed.is_from(queue) {

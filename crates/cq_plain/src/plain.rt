@@ -44,8 +44,10 @@ impl Plain {
     /// Adds the event where it may follow the history, and says whether it may. Else the history is as before, and where
     /// memory runs out too. The history is legal after each call.
     pub fn apply(&mut self, event: &Event) -> Result<bool, AllocError>
-        ensures exact { IfOk result (λ allowed. (allowed ≡ true) ↔ (Allowed self.old event.now × StartsWithOpened self.old event.now)) }
-        ensures ok { IfOk result (λ allowed. self.new ≡ (if allowed then (record { event = event.now; stamp = 0 }) ∷ self.old else self.old)) }
+        ensures exact { IfOk result
+            (λ allowed. (allowed ≡ true) ↔ (Allowed self.old event.now × StartsWithOpened self.old event.now)) }
+        ensures ok { IfOk result
+            (λ allowed. self.new ≡ (if allowed then (record { event = event.now; stamp = 0 }) ∷ self.old else self.old)) }
         ensures err { OnErr result (self.new ≡ self.old) }
         ensures legal { Legal self.new }
     {

@@ -46,7 +46,8 @@ fn may_publish(
     id: u128,
     queues: &Queues,
 ) -> Result<bool, AllocError>
-    ensures { IfOk result (λ may. may ≡ (number == published (reverse entries.now) client && (not (has (brings id) (reverse entries.now)) && (not (id == 0) && (nat_lt 0 (length queues.now) && are_queues queues.now))))) }
+    ensures { IfOk result
+        (λ may. may ≡ (number == published (reverse entries.now) client && (not (has (brings id) (reverse entries.now)) && (not (id == 0) && (nat_lt 0 (length queues.now) && are_queues queues.now))))) }
 {
     let next = published(entries, client) as u64;
     let known = is_known(alloc, entries, id)?;
@@ -62,7 +63,8 @@ fn may_deliver(
     queue: u32,
     id: u128,
 ) -> Result<bool, AllocError>
-    ensures { IfOk result (λ may. may ≡ (nat_lt (length (unacked (reverse entries.now) client)) 64 && (is_first id (waiting (reverse entries.now) queue) && delivery == delivered (reverse entries.now) client))) }
+    ensures { IfOk result
+        (λ may. may ≡ (nat_lt (length (unacked (reverse entries.now) client)) 64 && (is_first id (waiting (reverse entries.now) queue) && delivery == delivered (reverse entries.now) client))) }
 {
     let has_room = unacked(alloc, entries, client)? < MOST_OPEN;
     let is_first = waiting(alloc, entries, queue)?.first() == Some(&id);
@@ -77,7 +79,8 @@ fn may_find_nothing(
     client: u32,
     queue: u32,
 ) -> Result<bool, AllocError>
-    ensures { IfOk result (λ may. may ≡ (nat_lt (length (unacked (reverse entries.now) client)) 64 && is_nothing (waiting (reverse entries.now) queue))) }
+    ensures { IfOk result
+        (λ may. may ≡ (nat_lt (length (unacked (reverse entries.now) client)) 64 && is_nothing (waiting (reverse entries.now) queue))) }
 {
     let has_room = unacked(alloc, entries, client)? < MOST_OPEN;
     let waits = waiting(alloc, entries, queue)?;
@@ -98,21 +101,25 @@ fn may_drop(
     client: u32,
     delivery: u32,
 ) -> Result<bool, AllocError>
-    ensures { IfOk result (λ may. may ≡ (is_open (reverse entries.now) client delivery && not (has (is_dropped_by client delivery) (reverse entries.now)))) }
+    ensures { IfOk result
+        (λ may. may ≡ (is_open (reverse entries.now) client delivery && not (has (is_dropped_by client delivery) (reverse entries.now)))) }
 {
     Ok(is_open(alloc, entries, client, delivery)? && !is_dropped(entries, client, delivery))
 }
 
 /// A confirm of a publish, once.
 fn may_confirm(entries: &[Entry], client: u32, number: u64, id: u128) -> bool
-    ensures { result ≡ (has (is_publish client number id) (reverse entries.now) && not (has (is_confirmed_by id) (reverse entries.now))) }
+    ensures { result ≡
+        (has (is_publish client number id) (reverse entries.now) && not
+        (has (is_confirmed_by id) (reverse entries.now))) }
 {
     is_published(entries, client, number, id) && !is_confirmed(entries, id)
 }
 
 /// A settling of what was removed, once.
 fn may_settle(alloc: Global, entries: &[Entry], queue: u32, id: u128) -> Result<bool, AllocError>
-    ensures { IfOk result (λ may. may ≡ (contains (acked (reverse entries.now) queue) id && not (contains (settled (reverse entries.now) queue) id))) }
+    ensures { IfOk result
+        (λ may. may ≡ (contains (acked (reverse entries.now) queue) id && not (contains (settled (reverse entries.now) queue) id))) }
 {
     let removed = acked(alloc, entries, queue)?;
     let gone = settled(alloc, entries, queue)?;

@@ -147,7 +147,9 @@ fn put_reply<W: Sink>(
     bodies: &BTreeMap<u128, &[u8]>,
     sink: &mut W,
 ) -> Result<(), PutError>
-    ensures ok { OnOk result (Adds (W.pieces sink.old) (W.pieces sink.new) (if is_left_out then [] else own_line (shown bodies.now) client event.now)) }
+    ensures ok { OnOk result
+        (Adds (W.pieces sink.old) (W.pieces sink.new)
+        (if is_left_out then [] else own_line (shown bodies.now) client event.now)) }
     ensures cause { CausedOf PutError.Output (W.faults sink.old) (W.faults sink.new) result }
 {
     if is_left_out || !answers(client, event) {
@@ -166,7 +168,9 @@ fn put_replies<W: Sink>(
     bodies: &BTreeMap<u128, &[u8]>,
     sink: &mut W,
 ) -> Result<(), PutError>
-    ensures ok { OnOk result (Adds (W.pieces sink.old) (W.pieces sink.new) (reply_lines (shown bodies.now) client left_out (reverse entries.now))) }
+    ensures ok { OnOk result
+        (Adds (W.pieces sink.old) (W.pieces sink.new)
+        (reply_lines (shown bodies.now) client left_out (reverse entries.now))) }
     ensures cause { CausedOf PutError.Output (W.faults sink.old) (W.faults sink.new) result }
 {
     for (place, entry) in entries.iter().enumerate() {
@@ -207,7 +211,8 @@ fn put_confirms<W: Sink>(
     entries: &[Entry],
     sink: &mut W,
 ) -> Result<(), PutError>
-    ensures ok { OnOk result (Adds (W.pieces sink.old) (W.pieces sink.new) (confirmed_lines (reverse entries.now) client)) }
+    ensures ok { OnOk result
+        (Adds (W.pieces sink.old) (W.pieces sink.new) (confirmed_lines (reverse entries.now) client)) }
     ensures cause { CausedOf PutError.Output (W.faults sink.old) (W.faults sink.new) result }
 {
     for entry in entries {
@@ -258,7 +263,9 @@ fn put_client<W: Sink>(
     bodies: &BTreeMap<u128, &[u8]>,
     sink: &mut W,
 ) -> Result<(), PutError>
-    ensures ok { OnOk result (Adds (W.pieces sink.old) (W.pieces sink.new) (client_lines (shown bodies.now) (reverse entries.now) cut.now client)) }
+    ensures ok { OnOk result
+        (Adds (W.pieces sink.old) (W.pieces sink.new)
+        (client_lines (shown bodies.now) (reverse entries.now) cut.now client)) }
     ensures cause { CausedOf PutError.Output (W.faults sink.old) (W.faults sink.new) result }
 {
     let place = left_out(client, entries, cut);
@@ -304,7 +311,9 @@ fn put_clients<W: Sink>(
     bodies: &BTreeMap<u128, &[u8]>,
     sink: &mut W,
 ) -> Result<(), PutError>
-    ensures ok { OnOk result (Adds (W.pieces sink.old) (W.pieces sink.new) (clients_lines (shown bodies.now) (reverse entries.now) cut.now (clients_end (reverse entries.now)))) }
+    ensures ok { OnOk result
+        (Adds (W.pieces sink.old) (W.pieces sink.new)
+        (clients_lines (shown bodies.now) (reverse entries.now) cut.now (clients_end (reverse entries.now)))) }
     ensures cause { CausedOf PutError.Output (W.faults sink.old) (W.faults sink.new) result }
 {
     for client in 0..clients_end(entries) {
@@ -322,7 +331,11 @@ fn put_text<W: Sink>(
     bodies: &BTreeMap<u128, &[u8]>,
     sink: &mut W,
 ) -> Result<(), PutError>
-    ensures ok { OnOk result (Adds (W.pieces sink.old) (W.pieces sink.new) (session_line number ∷ (opened_lines (reverse entries.now) ++ clients_lines (shown bodies.now) (reverse entries.now) cut.now (clients_end (reverse entries.now))))) }
+    ensures ok { OnOk result
+        (Adds (W.pieces sink.old) (W.pieces sink.new)
+        (session_line number ∷
+        (opened_lines (reverse entries.now) ++ clients_lines (shown bodies.now) (reverse entries.now) cut.now
+        (clients_end (reverse entries.now))))) }
     ensures cause { CausedOf PutError.Output (W.faults sink.old) (W.faults sink.new) result }
 {
     let head = session_line(alloc, number)?;
@@ -341,7 +354,8 @@ pub fn put_session<W: Sink>(
     session: &Session,
     sink: &mut W,
 ) -> Result<(), PutError>
-    ensures ok { Legal session.now.journal.entries → OnOk result (Adds (W.pieces sink.old) (W.pieces sink.new) (text_of number session.now.journal.entries session.now.cut.items)) }
+    ensures ok { Legal session.now.journal.entries
+        → OnOk result (Adds (W.pieces sink.old) (W.pieces sink.new) (text_of number session.now.journal.entries session.now.cut.items)) }
     ensures cause { CausedOf PutError.Output (W.faults sink.old) (W.faults sink.new) result }
 {
     let entries = session.journal.entries();

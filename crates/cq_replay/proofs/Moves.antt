@@ -1,5 +1,5 @@
 -- How the entries and the client's requests move on.
-use Rattle.std.proofs.Common.{◌≡◌, ℕ, ◌+◌, ◌<◌, ◌≤◌, List, [], ◌∷◌, ◌++◌, length, Result, Ok, Err, OnOk, refl, sym, ap, ◌∙◌, arith, append_assoc, length-append, Bool, true, false, cond, Option}
+use Rattle.std.proofs.Common.{◌≡◌, ℕ, ◌+◌, ◌<◌, ◌≤◌, List, [], ◌∷◌, ◌++◌, length, Result, Ok, Err, OnOk, refl, sym, ap, ◌∙◌, arith, append_assoc, length-append, true, false, cond}
 use Rattle.std.specs.Prelude.{◌==◌, map}
 use Rattle.std.specs.List.{AllByRecursion}
 use Rattle.std.proofs.lemmas.List.{length-map}
@@ -19,9 +19,14 @@ use Rattle.cq_node.specs.declared.outcome.Turn.{Turn}
 use Rattle.cq_node.specs.declared.outcome.Turn.TheVariants.{Moved, Done}
 use Rattle.cq_node.specs.Turned.{Turned, Moves, Wrote}
 use Rattle.cq_node.specs.Waiting.{Handed}
-use Rattle.cq_disk.specs.Call.{CausedOf, StruckByOf, KeepsPlan}
+use Rattle.cq_disk.specs.declared.disk.Disk.{Ghosts}
+use Rattle.cq_disk.specs.RunLemmas.{ran_none, ran_next}
+use Rattle.cq_node.specs.declared.node.Node.{Node}
+use Rattle.cq_node.specs.View.{disk_of, IsRunning}
+use Rattle.cq_replay.specs.Going.{Goes}
 use Rattle.cq_journal.specs.declared.session.After.{After}
-use Rattle.cq_replay.specs.Running.{GoesOn, MovesOn, IsFresh, demand}
+use Rattle.cq_replay.specs.Sessions.{opening_stamp}
+use Rattle.cq_replay.specs.Running.{MovesOn, IsFresh, demand}
 
 -- nothing has moved
 pub stays : (moment : ℕ) (old new : List Entry) (w w' : Handed) (rest rest' : List Request) → new ≡ old → w'.requests ++ rest' ≡ w.requests ++ rest → MovesOn moment old new w w' rest rest'
@@ -110,17 +115,52 @@ length-replies (e ∷ past) c = length-append (replies past c) (reply_of past c 
 pub length-told : (told : List Reply) (journal : List Entry) (c : ℕ) → map bodiless told ≡ map bodiless (replies journal c) → length told ≡ length (asks journal c)
 length-told told journal c same = sym (length-map told bodiless) ∙ ap length same ∙ length-map (replies journal c) bodiless ∙ length-replies journal c
 
+-- a run of no step
+pub goes_none : {D : Type 0} {g : Ghosts D} (node : Node D g) → IsRunning node → Goes {T = Unit {0}} node node (Ok tt)
+goes_none {g = g} node running = record { opened = refl; goes_on = running; no_stop = λ is. cc; ran = ran_next g _ _ _ ⊥ ⊥ _ (λ is. clash is) (ran_none g (disk_of node)) (ran_none g (disk_of node)) }
+  where
+    clash : {T E : Type 0} {v : T} {e : E} → Path (Result T E) (Ok v) (Err e) → ⊥
+    clash is = cc
+
 -- a run that goes on by one step more
-pub goes_next : {E T : Type 0} (fault : E) (result : Result T E) (h h' : Bool) (m0 m m' f0 f f' s0 s s' : ℕ) (u0 u u' : Option ℕ) (p0 p p' : List ℕ) → GoesOn h m0 m f0 f s0 s u0 u p0 p
-    → h' ≡ false → m ≤ m' → CausedOf fault f f' result → StruckByOf fault u m' s s' result → KeepsPlan u p u' p' → GoesOn h' m0 m' f0 f' s0 s' u0 u' p0 p'
-goes_next fault result h h' m0 m m' f0 f f' s0 s s' u0 u u' p0 p p' so_far running later cause strike plan = record {
-  running = running;
-  later = omega (arith, so_far.later, later);
-  faults_later = omega (arith, so_far.faults_later, cause.later);
-  struck_later = omega (arith, so_far.struck_later, strike.later);
-  same_fuse = plan.fuse ∙ so_far.same_fuse;
-  same_plan = plan.planned ∙ so_far.same_plan;
+pub goes_next : {D S T : Type 0} {g : Ghosts D} (a b e : Node D g) (first : Result S NodeError) (result : Result T NodeError) → Goes a b first → Goes b e result → Goes a e result
+goes_next {g = g} a b e first result so_far next = record {
+  opened = next.opened ∙ so_far.opened;
+  goes_on = next.goes_on;
+  no_stop = next.no_stop;
+  ran = ran_next g (disk_of a) (disk_of b) (disk_of e) _ _ _ (λ is. is) so_far.ran next.ran;
 }
+
+-- the same answers, of other types
+ok_to : {S T E : Type 0} (v : S) (w : T) (e : E) → Path (Result T E) (Ok w) (Err e) → Path (Result S E) (Ok v) (Err e)
+ok_to v w e is = cc
+
+err_to : {S T E : Type 0} (error e : E) → Path (Result T E) (Err error) (Err e) → Path (Result S E) (Err error) (Err e)
+err_to {S = S} {T = T} {E = E} error e is = let same : error ≡ e = one is in ap Err same
+  where
+    one : Path (Result T E) (Err error) (Err e) → error ≡ e
+    one h = cc
+
+pub goes_more : {D S : Type 0} {g : Ghosts D} (a b e : Node D g) (v : S) → Goes {T = Unit {0}} a b (Ok tt) → Goes {T = S} b e (Ok v) → Goes {T = Unit {0}} a e (Ok tt)
+goes_more {g = g} a b e v so_far next = record {
+  opened = next.opened ∙ so_far.opened;
+  goes_on = next.goes_on;
+  no_stop = λ is. next.no_stop (ok_to v tt _ is);
+  ran = ran_next g (disk_of a) (disk_of b) (disk_of e) _ _ _ (ok_to v tt _) so_far.ran next.ran;
+}
+
+pub goes_fail : {D S : Type 0} {g : Ghosts D} (a b e : Node D g) (error : NodeError) → Goes {T = Unit {0}} a b (Ok tt) → Goes {T = S} b e (Err error) → Goes {T = Unit {0}} a e (Err error)
+goes_fail {g = g} a b e error so_far next = record {
+  opened = next.opened ∙ so_far.opened;
+  goes_on = tt;
+  no_stop = λ is. next.no_stop (err_to error _ is);
+  ran = ran_next g (disk_of a) (disk_of b) (disk_of e) _ _ _ (err_to error _) so_far.ran next.ran;
+}
+
+-- a fact that follows from another one at Ok
+pub on_map : {T E P Q : Type 0} (result : Result T E) → (P → Q) → OnOk result P → OnOk result Q
+on_map (Ok v) step p = step p
+on_map (Err e) step p = tt
 
 pub ok_too : {T E P : Type 0} (result : Result T E) → P → OnOk result P
 ok_too (Ok v) p = p
@@ -158,6 +198,25 @@ opening_asks m (e ∷ f ∷ past) is = absurd is
 -- a journal that goes on from an opening has some entry
 pub begun : (m : ℕ) (old now added : List Entry) → IsOpening m old → now ≡ added ++ old → 0 < length now
 begun m old now added opened grown = omega (arith, ap length grown, length-append added old, opening_one m old opened)
+
+-- its opening has this moment as its stamp
+stamp_more : (e : Entry) (past : List Entry) → 0 < length past → opening_stamp (e ∷ past) ≡ opening_stamp past
+stamp_more e [] some = absurd (omega (arith, some))
+stamp_more e (f ∷ past) some = refl
+
+stamp_grows : (added old : List Entry) → 0 < length old → opening_stamp (added ++ old) ≡ opening_stamp old
+stamp_grows [] old some = refl
+stamp_grows (e ∷ added) old some = stamp_more e (added ++ old) (omega (arith, some, length-append added old)) ∙ stamp_grows added old some
+
+stamp_one : (m : ℕ) (journal : List Entry) → IsOpening m journal → opening_stamp journal ≡ m
+stamp_one m [] is = absurd is
+stamp_one m (e ∷ []) is = is.0
+stamp_one m (e ∷ f ∷ past) is = absurd is
+
+pub opening_since : (m : ℕ) (old now added : List Entry) → IsOpening m old → now ≡ added ++ old → m ≤ opening_stamp now
+opening_since m old now added opened grown =
+    let same : opening_stamp now ≡ m = ap opening_stamp grown ∙ stamp_grows added old (omega (arith, opening_one m old opened)) ∙ stamp_one m old opened in
+    omega (arith, same)
 
 -- what a session that has only begun has to serve
 pub demand_fresh : (m : ℕ) (journal : List Entry) (w : Handed) (after : List After) (rest : List Request) → IsFresh m journal w after → demand journal w rest ≡ rest

@@ -1,20 +1,18 @@
 // One client that is served by a node, step by step.
 ghost use Rattle.std.specs.Prelude.{◌≡◌, ℕ, ◌<◌, ◌≤◌, ◌+◌, ◌++◌, ◌∷◌, [], None, true, false, length, OnOk, OnErr, IfSome, IsErrOf, reverse, vec_len, vec_capacity, Some, min, ◌-◌, ◌^◌};
 ghost use Rattle.std.specs.List.{list_all};
-ghost use Rattle.cq_disk.specs.Call.{CausedOf, StruckByOf, KeepsPlan};
+ghost use Rattle.cq_disk.specs.Run.{RanOn};
 ghost use Rattle.cq_inbox.specs.Requests.{publishes};
 ghost use Rattle.cq_journal.specs.Asks.{asks};
 ghost use Rattle.cq_node.specs.declared.outcome.NodeError.TheVariants.{Fault as node_fault};
-ghost use Rattle.cq_held.specs.Held.{as_read, Held};
-ghost use Rattle.cq_journal.specs.Confirms.{AreConfirmed};
-ghost use Rattle.cq_journal.specs.History.{line};
-ghost use Rattle.cq_node.specs.Turned.{Turned, Wrote, IsIdle, HasDone};
-ghost use Rattle.cq_disk.specs.Rose.{Rose};
+ghost use Rattle.cq_node.specs.Turned.{IsIdle, HasDone};
 ghost use Rattle.cq_script.specs.Scripts.{is_crash};
-ghost use Rattle.cq_replay.specs.Done.{DoesWords, standing};
+ghost use Rattle.cq_replay.specs.Done.{DoesWords, AreBy, reached};
 ghost use Rattle.cq_replay.specs.Sessions.{plain_words, entries_after, EndsBy};
-ghost use Rattle.cq_replay.specs.Running.{MovesOn, WordDid, IsFresh, demand, hands, stands};
+ghost use Rattle.cq_replay.specs.Running.{WordDid, IsFresh, demand, hands, stands};
+ghost use Rattle.cq_node.specs.View.{clients_of, entries, requests, waiting, disk_of, moment_of, opened_of, IsRunning, SameQueue, SameStore, Turns, Writes};
 ghost use Rattle.cq_node.specs.Waiting.{is_servable};
+ghost use Rattle.cq_replay.specs.Going.{Moves, MovesBy, HasBegun, AreWords, HasDoneWords, FailsOnly, Goes, IsWritten, IsFinished};
 
 use cq_inbox::Request;
 use cq_journal::After;
@@ -25,41 +23,36 @@ use std::collections::VecDeque;
 
 /// A node, what its one client hasn't handed in yet, in order, and the state after each word that was done.
 #[derive(Drop)]
-pub struct Player<D: Crashable> {
+pub(crate) struct Player<D: Crashable> {
     pub node: Node<D>,
     pub rest: VecDeque<Request>,
     pub after: Vec<After>,
 
     ghost servable: { list_all is_servable rest.items ≡ true },
-    ghost few: { node.opened + publishes (asks node.core.entries 0) + publishes node.waiting.requests + publishes rest.items ≤ 4096 },
-    ghost one_client: { node.config.clients ≡ 1 },
+    ghost few: { opened_of node + publishes (asks (entries node) 0) + publishes (requests node) + publishes rest.items ≤ 4096 },
+    ghost one_client: { clients_of node ≡ 1 },
 }
 
 impl<D: Crashable> Player<D> {
     /// Serves the words of a schedule before its first crash, in which there is none, and what ends the session: where no crash
     /// does, all that is left is served. A fault that a stop brings about isn't answered.
     pub fn serve(&mut self, words: &[StepWord], end: Option<StepWord>) -> Result<(), NodeError>
-        requires open { self.old.node.store.halted ≡ false }
-        requires no_fuse { D.fuse self.old.node.store.disk ≡ None }
-        requires fresh { IsFresh (D.moment self.old.node.store.disk) self.old.node.core.entries self.old.node.waiting self.old.after.items }
-        requires plain { plain_words words.now ≡ words.now }
-        requires end { IfSome end (λ w. is_crash w ≡ true) }
-        ensures moves { MovesOn (D.moment self.old.node.store.disk) self.old.node.core.entries self.new.node.core.entries self.old.node.waiting self.new.node.waiting self.old.rest.items self.new.rest.items }
-        ensures opened { self.new.node.opened ≡ self.old.node.opened }
-        ensures done { DoesWords (length self.old.rest.items) self.new.node.core.entries words.now self.new.after.items }
-        ensures all_words { OnOk result (length self.new.after.items ≡ length words.now) }
+        requires begun { HasBegun self.old.node self.old.after.items }
+        requires words { AreWords words.now end }
+        ensures moves { MovesBy self.old.node self.new.node self.old.rest.items self.new.rest.items }
+        ensures done { HasDoneWords (length self.old.rest.items)
+            (entries self.new.node) words.now self.new.after.items result }
         // Where a crash ends the session.
-        ensures ends { OnOk result (IfSome end (λ w. EndsBy w (entries_after (length self.old.rest.items) self.new.node.core.entries words.now self.new.after.items) self.new.node.core.entries)) }
+        ensures ends { OnOk result
+            (IfSome end
+            (λ w. EndsBy w
+            (entries_after (length self.old.rest.items) (entries self.new.node) words.now self.new.after.items)
+            (entries self.new.node))) }
         // Where none does.
-        ensures finished { end ≡ None → OnOk result ((self.new.node.waiting.requests ≡ []) × (self.new.rest.items ≡ [])) }
-        ensures confirmed { end ≡ None → OnOk result (AreConfirmed self.new.node.core.entries) }
-        ensures held { end ≡ None → OnOk result (D.tells → ∥ Held (as_read (D.files self.new.node.store.disk)) (line self.new.node.core.entries) ∥₁) }
-        ensures no_stop { IsErrOf result NodeError.Stopped → ⊥ }
-        ensures later { D.moment self.old.node.store.disk ≤ D.moment self.new.node.store.disk }
-        ensures cause { CausedOf node_fault (D.faults self.old.node.store.disk) (D.faults self.new.node.store.disk) result }
-        ensures struck_later { D.struck self.old.node.store.disk ≤ D.struck self.new.node.store.disk }
-        ensures struck { IsErrOf result node_fault → Rose (D.struck self.old.node.store.disk) (D.struck self.new.node.store.disk) }
-        ensures planned { D.planned self.new.node.store.disk ≡ D.planned self.old.node.store.disk }
+        ensures finished { end ≡ None → OnOk result (IsFinished self.new.node self.new.rest.items) }
+        ensures fails { FailsOnly D.Disk (disk_of self.old.node) (disk_of self.new.node) result }
+        // The moments that were kept have passed.
+        ensures by { AreBy (moment_of self.new.node) self.new.after.items }
     {
         let total = self.rest.len();
         self.run(words)?;
@@ -78,21 +71,20 @@ impl<D: Crashable> Player<D> {
 
     /// Serves the words of a schedule, in which there is no crash.
     fn run(&mut self, words: &[StepWord]) -> Result<(), NodeError>
-        requires open { self.old.node.store.halted ≡ false }
-        requires fresh { IsFresh (D.moment self.old.node.store.disk) self.old.node.core.entries self.old.node.waiting self.old.after.items }
+        requires open { IsRunning self.old.node }
+        requires fresh { IsFresh (moment_of self.old.node) (entries self.old.node)
+            (waiting self.old.node) self.old.after.items }
         requires plain { plain_words words.now ≡ words.now }
-        ensures moves { MovesOn (D.moment self.old.node.store.disk) self.old.node.core.entries self.new.node.core.entries self.old.node.waiting self.new.node.waiting self.old.rest.items self.new.rest.items }
-        ensures opened { self.new.node.opened ≡ self.old.node.opened }
-        ensures none_kept { OnOk result (self.new.node.waiting.kept ≡ false) }
-        ensures done { DoesWords (length self.old.rest.items) self.new.node.core.entries words.now self.new.after.items }
+        ensures moves { Moves self.old.node self.new.node self.old.rest.items self.new.rest.items }
+        ensures none_kept { OnOk result ((waiting self.new.node).kept ≡ false) }
+        ensures done { DoesWords (length self.old.rest.items) (entries self.new.node) words.now self.new.after.items }
         ensures all_words { OnOk result (length self.new.after.items ≡ length words.now) }
-        ensures stands { OnOk result (standing (length self.old.rest.items) self.new.node.core.entries (reverse words.now) (reverse self.new.after.items) ≡ stands self.new.node.core.entries self.new.node.waiting (D.moment self.new.node.store.disk)) }
-        ensures goes_on { OnOk result (self.new.node.store.halted ≡ false) }
-        ensures no_stop { IsErrOf result NodeError.Stopped → ⊥ }
-        ensures later { D.moment self.old.node.store.disk ≤ D.moment self.new.node.store.disk }
-        ensures cause { CausedOf node_fault (D.faults self.old.node.store.disk) (D.faults self.new.node.store.disk) result }
-        ensures strike { StruckByOf node_fault (D.fuse self.old.node.store.disk) (D.moment self.new.node.store.disk) (D.struck self.old.node.store.disk) (D.struck self.new.node.store.disk) result }
-        ensures plan { KeepsPlan (D.fuse self.old.node.store.disk) (D.planned self.old.node.store.disk) (D.fuse self.new.node.store.disk) (D.planned self.new.node.store.disk) }
+        ensures stands { OnOk result
+            (reached (length self.old.rest.items) (entries self.new.node) (reverse words.now)
+            (reverse self.new.after.items) ≡ stands (entries self.new.node) (waiting self.new.node)
+            (moment_of self.new.node)) }
+        ensures goes { Goes self.old.node self.new.node result }
+        ensures by { AreBy (moment_of self.new.node) self.new.after.items }
     {
         if self.after.reserve(words.len()).is_err() {
             return Err(NodeError::Memory);
@@ -106,17 +98,17 @@ impl<D: Crashable> Player<D> {
     /// Makes the step of a stop, within which the disk may fail: after so many further device calls each one does. Only want of
     /// memory is answered.
     fn stop(&mut self, calls: u64, step: Halt) -> Result<(), NodeError>
-        requires open { self.old.node.store.halted ≡ false }
-        requires none_kept { self.old.node.waiting.kept ≡ false }
-        ensures moves { MovesOn (D.moment self.old.node.store.disk) self.old.node.core.entries self.new.node.core.entries self.old.node.waiting self.new.node.waiting self.old.rest.items self.new.rest.items }
-        ensures same { (self.new.rest ≡ self.old.rest) × (self.new.after ≡ self.old.after) × (self.new.node.opened ≡ self.old.node.opened) }
-        ensures fuse { D.fuse self.new.node.store.disk ≡ Some (min (D.moment self.old.node.store.disk + calls) (2 ^ 64 - 1)) }
-        ensures ends { OnOk result ((image : ℕ) → EndsBy (StepWord.Stop image calls step) (length self.old.node.core.entries) self.new.node.core.entries) }
+        requires open { IsRunning self.old.node }
+        requires none_kept { (waiting self.old.node).kept ≡ false }
+        ensures moves { Moves self.old.node self.new.node self.old.rest.items self.new.rest.items }
+        ensures same { (self.new.rest ≡ self.old.rest) × (self.new.after ≡ self.old.after)
+            × ((opened_of self.new.node) ≡ (opened_of self.old.node)) }
+        ensures fuse { D.fuse (disk_of self.new.node) ≡ Some (min (moment_of self.old.node + calls) (2 ^ 64 - 1)) }
+        ensures ends { OnOk result
+            ((image : ℕ)
+            → EndsBy (StepWord.Stop image calls step) (length (entries self.old.node)) (entries self.new.node)) }
         ensures memory { OnErr result (result ≡ Err NodeError.Memory) }
-        ensures later { D.moment self.old.node.store.disk ≤ D.moment self.new.node.store.disk }
-        ensures faults_later { D.faults self.old.node.store.disk ≤ D.faults self.new.node.store.disk }
-        ensures struck_later { D.struck self.old.node.store.disk ≤ D.struck self.new.node.store.disk }
-        ensures planned { D.planned self.new.node.store.disk ≡ D.planned self.old.node.store.disk }
+        ensures ran { RanOn D.Disk (disk_of self.old.node) (disk_of self.new.node) ⊥ }
     {
         self.node.fuse(calls);
         let stopped = match step {
@@ -132,22 +124,24 @@ impl<D: Crashable> Player<D> {
     /// Does one word of the schedule, and records where the session stands then.
     fn step(&mut self, word: StepWord) -> Result<(), NodeError>
         requires plain { is_crash word ≡ false }
-        requires open { self.old.node.store.halted ≡ false }
-        requires none_kept { self.old.node.waiting.kept ≡ false }
+        requires open { IsRunning self.old.node }
+        requires none_kept { (waiting self.old.node).kept ≡ false }
         requires room { vec_len self.old.after < vec_capacity self.old.after }
-        ensures opened { self.new.node.opened ≡ self.old.node.opened }
-        ensures moves { MovesOn (D.moment self.old.node.store.disk) self.old.node.core.entries self.new.node.core.entries self.old.node.waiting self.new.node.waiting self.old.rest.items self.new.rest.items }
-        ensures none_kept { OnOk result (self.new.node.waiting.kept ≡ false) }
+        ensures moves { Moves self.old.node self.new.node self.old.rest.items self.new.rest.items }
+        ensures none_kept { OnOk result ((waiting self.new.node).kept ≡ false) }
         ensures capacity { vec_capacity self.new.after ≡ vec_capacity self.old.after }
         ensures after { OnErr result (self.new.after.items ≡ self.old.after.items) }
-        ensures pushed { OnOk result (self.new.after.items ≡ self.old.after.items ++ record { entries = length self.new.node.core.entries; moment = D.moment self.new.node.store.disk } ∷ []) }
-        ensures did { OnOk result (WordDid (length (demand self.old.node.core.entries self.old.node.waiting self.old.rest.items)) word self.old.node.core.entries self.new.node.core.entries self.old.node.waiting self.new.node.waiting (D.moment self.old.node.store.disk) (D.moment self.new.node.store.disk)) }
-        ensures goes_on { OnOk result (self.new.node.store.halted ≡ false) }
-        ensures no_stop { IsErrOf result NodeError.Stopped → ⊥ }
-        ensures later { D.moment self.old.node.store.disk ≤ D.moment self.new.node.store.disk }
-        ensures cause { CausedOf node_fault (D.faults self.old.node.store.disk) (D.faults self.new.node.store.disk) result }
-        ensures strike { StruckByOf node_fault (D.fuse self.old.node.store.disk) (D.moment self.new.node.store.disk) (D.struck self.old.node.store.disk) (D.struck self.new.node.store.disk) result }
-        ensures plan { KeepsPlan (D.fuse self.old.node.store.disk) (D.planned self.old.node.store.disk) (D.fuse self.new.node.store.disk) (D.planned self.new.node.store.disk) }
+        ensures pushed { OnOk result
+            (self.new.after.items ≡ self.old.after.items ++ record {
+              entries = length
+                  (entries self.new.node);
+              moment = moment_of self.new.node;
+            } ∷ []) }
+        ensures did { OnOk result
+            (WordDid (length (demand (entries self.old.node) (waiting self.old.node) self.old.rest.items)) word
+            (entries self.old.node) (entries self.new.node) (waiting self.old.node) (waiting self.new.node)
+            (moment_of self.old.node) (moment_of self.new.node)) }
+        ensures goes { Goes self.old.node self.new.node result }
     {
         self.do_word(word)?;
         let after = After {
@@ -161,19 +155,16 @@ impl<D: Crashable> Player<D> {
     /// Does one word of the schedule.
     fn do_word(&mut self, word: StepWord) -> Result<(), NodeError>
         requires plain { is_crash word ≡ false }
-        requires open { self.old.node.store.halted ≡ false }
-        requires none_kept { self.old.node.waiting.kept ≡ false }
-        ensures opened { self.new.node.opened ≡ self.old.node.opened }
-        ensures moves { MovesOn (D.moment self.old.node.store.disk) self.old.node.core.entries self.new.node.core.entries self.old.node.waiting self.new.node.waiting self.old.rest.items self.new.rest.items }
-        ensures none_kept { OnOk result (self.new.node.waiting.kept ≡ false) }
+        requires open { IsRunning self.old.node }
+        requires none_kept { (waiting self.old.node).kept ≡ false }
+        ensures moves { Moves self.old.node self.new.node self.old.rest.items self.new.rest.items }
+        ensures none_kept { OnOk result ((waiting self.new.node).kept ≡ false) }
         ensures after { self.new.after ≡ self.old.after }
-        ensures did { OnOk result (WordDid (length (demand self.old.node.core.entries self.old.node.waiting self.old.rest.items)) word self.old.node.core.entries self.new.node.core.entries self.old.node.waiting self.new.node.waiting (D.moment self.old.node.store.disk) (D.moment self.new.node.store.disk)) }
-        ensures goes_on { OnOk result (self.new.node.store.halted ≡ false) }
-        ensures no_stop { IsErrOf result NodeError.Stopped → ⊥ }
-        ensures later { D.moment self.old.node.store.disk ≤ D.moment self.new.node.store.disk }
-        ensures cause { CausedOf node_fault (D.faults self.old.node.store.disk) (D.faults self.new.node.store.disk) result }
-        ensures strike { StruckByOf node_fault (D.fuse self.old.node.store.disk) (D.moment self.new.node.store.disk) (D.struck self.old.node.store.disk) (D.struck self.new.node.store.disk) result }
-        ensures plan { KeepsPlan (D.fuse self.old.node.store.disk) (D.planned self.old.node.store.disk) (D.fuse self.new.node.store.disk) (D.planned self.new.node.store.disk) }
+        ensures did { OnOk result
+            (WordDid (length (demand (entries self.old.node) (waiting self.old.node) self.old.rest.items)) word
+            (entries self.old.node) (entries self.new.node) (waiting self.old.node) (waiting self.new.node)
+            (moment_of self.old.node) (moment_of self.new.node)) }
+        ensures goes { Goes self.old.node self.new.node result }
     {
         match word {
             StepWord::Client(_) => {
@@ -194,13 +185,15 @@ impl<D: Crashable> Player<D> {
 
     /// Hands in the next request, where there is one and the lane isn't full.
     fn hand_in(&mut self)
-        requires none_kept { self.old.node.waiting.kept ≡ false }
-        ensures opened { self.new.node.opened ≡ self.old.node.opened }
-        ensures store { self.new.node.store ≡ self.old.node.store }
-        ensures core { self.new.node.core ≡ self.old.node.core }
-        ensures moved { self.new.node.waiting.requests ++ self.new.rest.items ≡ self.old.node.waiting.requests ++ self.old.rest.items }
-        ensures one { length self.new.node.waiting.requests ≡ length self.old.node.waiting.requests + hands (length self.old.rest.items) (length self.old.node.waiting.requests) }
-        ensures none_kept { self.new.node.waiting.kept ≡ false }
+        requires none_kept { (waiting self.old.node).kept ≡ false }
+        ensures opened { (opened_of self.new.node) ≡ (opened_of self.old.node) }
+        ensures store { SameStore self.old.node self.new.node }
+        ensures core { SameQueue self.old.node self.new.node }
+        ensures moved { (requests self.new.node) ++ self.new.rest.items ≡
+            (requests self.old.node) ++ self.old.rest.items }
+        ensures one { length (requests self.new.node) ≡ length (requests self.old.node) + hands
+            (length self.old.rest.items) (length (requests self.old.node)) }
+        ensures none_kept { (waiting self.new.node).kept ≡ false }
         ensures after { self.new.after ≡ self.old.after }
     {
         let Some(request) = self.rest.pop_front() else {
@@ -213,61 +206,40 @@ impl<D: Crashable> Player<D> {
 
     /// A turn of the client.
     fn turn(&mut self) -> Result<Turn, NodeError>
-        requires open { self.old.node.store.halted ≡ false }
-        requires none_kept { self.old.node.waiting.kept ≡ false }
-        ensures opened { self.new.node.opened ≡ self.old.node.opened }
-        ensures turned { Turned result (D.moment self.old.node.store.disk) self.old.node.core.entries self.new.node.core.entries self.old.node.waiting.requests self.new.node.waiting.requests }
+        requires open { IsRunning self.old.node }
+        requires none_kept { (waiting self.old.node).kept ≡ false }
+        ensures turned { Turns self.old.node self.new.node result }
         ensures rest { self.new.rest ≡ self.old.rest }
-        ensures none_kept { OnOk result (self.new.node.waiting.kept ≡ false) }
+        ensures none_kept { OnOk result ((waiting self.new.node).kept ≡ false) }
         ensures after { self.new.after ≡ self.old.after }
-        ensures goes_on { OnOk result (self.new.node.store.halted ≡ false) }
-        ensures no_stop { IsErrOf result NodeError.Stopped → ⊥ }
-        ensures later { D.moment self.old.node.store.disk ≤ D.moment self.new.node.store.disk }
-        ensures cause { CausedOf node_fault (D.faults self.old.node.store.disk) (D.faults self.new.node.store.disk) result }
-        ensures strike { StruckByOf node_fault (D.fuse self.old.node.store.disk) (D.moment self.new.node.store.disk) (D.struck self.old.node.store.disk) (D.struck self.new.node.store.disk) result }
-        ensures plan { KeepsPlan (D.fuse self.old.node.store.disk) (D.planned self.old.node.store.disk) (D.fuse self.new.node.store.disk) (D.planned self.new.node.store.disk) }
+        ensures goes { Goes self.old.node self.new.node result }
     {
         self.node.turn(0)
     }
 
     /// A step of the writer.
     fn write(&mut self) -> Result<Step, NodeError>
-        requires open { self.old.node.store.halted ≡ false }
-        requires none_kept { self.old.node.waiting.kept ≡ false }
-        ensures opened { self.new.node.opened ≡ self.old.node.opened }
-        ensures wrote { Wrote result (D.moment self.old.node.store.disk) self.old.node.core.entries self.new.node.core.entries }
-        ensures same { (self.new.node.waiting ≡ self.old.node.waiting) × (self.new.rest ≡ self.old.rest) }
-        ensures idle { IsIdle result → AreConfirmed self.new.node.core.entries }
-        ensures held { IsIdle result → D.tells → ∥ Held (as_read (D.files self.new.node.store.disk)) (line self.new.node.core.entries) ∥₁ }
-        ensures calls { HasDone result → D.moment self.old.node.store.disk < D.moment self.new.node.store.disk }
+        requires open { IsRunning self.old.node }
+        requires none_kept { (waiting self.old.node).kept ≡ false }
+        ensures wrote { Writes self.old.node self.new.node result }
+        ensures same { ((waiting self.new.node) ≡ (waiting self.old.node)) × (self.new.rest ≡ self.old.rest) }
+        ensures idle { IsIdle result → IsWritten self.new.node }
+        ensures calls { HasDone result → moment_of self.old.node < moment_of self.new.node }
         ensures after { self.new.after ≡ self.old.after }
-        ensures goes_on { OnOk result (self.new.node.store.halted ≡ false) }
-        ensures no_stop { IsErrOf result NodeError.Stopped → ⊥ }
-        ensures later { D.moment self.old.node.store.disk ≤ D.moment self.new.node.store.disk }
-        ensures cause { CausedOf node_fault (D.faults self.old.node.store.disk) (D.faults self.new.node.store.disk) result }
-        ensures strike { StruckByOf node_fault (D.fuse self.old.node.store.disk) (D.moment self.new.node.store.disk) (D.struck self.old.node.store.disk) (D.struck self.new.node.store.disk) result }
-        ensures plan { KeepsPlan (D.fuse self.old.node.store.disk) (D.planned self.old.node.store.disk) (D.fuse self.new.node.store.disk) (D.planned self.new.node.store.disk) }
+        ensures goes { Goes self.old.node self.new.node result }
     {
         self.node.write_step()
     }
 
     /// Serves all that is left of so many requests, and writes until nothing is left to write.
     fn finish(&mut self, total: usize) -> Result<(), NodeError>
-        requires open { self.old.node.store.halted ≡ false }
-        requires none_kept { self.old.node.waiting.kept ≡ false }
-        requires total { length (demand self.old.node.core.entries self.old.node.waiting self.old.rest.items) ≡ total }
-        ensures opened { self.new.node.opened ≡ self.old.node.opened }
-        ensures moves { MovesOn (D.moment self.old.node.store.disk) self.old.node.core.entries self.new.node.core.entries self.old.node.waiting self.new.node.waiting self.old.rest.items self.new.rest.items }
+        requires open { IsRunning self.old.node }
+        requires none_kept { (waiting self.old.node).kept ≡ false }
+        requires total { length (demand (entries self.old.node) (waiting self.old.node) self.old.rest.items) ≡ total }
+        ensures moves { Moves self.old.node self.new.node self.old.rest.items self.new.rest.items }
         ensures after { self.new.after ≡ self.old.after }
-        ensures finished { OnOk result ((self.new.node.waiting.requests ≡ []) × (self.new.rest.items ≡ [])) }
-        ensures confirmed { OnOk result (AreConfirmed self.new.node.core.entries) }
-        ensures held { OnOk result (D.tells → ∥ Held (as_read (D.files self.new.node.store.disk)) (line self.new.node.core.entries) ∥₁) }
-        ensures goes_on { OnOk result (self.new.node.store.halted ≡ false) }
-        ensures no_stop { IsErrOf result NodeError.Stopped → ⊥ }
-        ensures later { D.moment self.old.node.store.disk ≤ D.moment self.new.node.store.disk }
-        ensures cause { CausedOf node_fault (D.faults self.old.node.store.disk) (D.faults self.new.node.store.disk) result }
-        ensures strike { StruckByOf node_fault (D.fuse self.old.node.store.disk) (D.moment self.new.node.store.disk) (D.struck self.old.node.store.disk) (D.struck self.new.node.store.disk) result }
-        ensures plan { KeepsPlan (D.fuse self.old.node.store.disk) (D.planned self.old.node.store.disk) (D.fuse self.new.node.store.disk) (D.planned self.new.node.store.disk) }
+        ensures finished { OnOk result (IsFinished self.new.node self.new.rest.items) }
+        ensures goes { Goes self.old.node self.new.node result }
     {
         let answered = self.node.replies(0).len();
         for _round in 0..total.saturating_sub(answered) {
@@ -278,20 +250,16 @@ impl<D: Crashable> Player<D> {
 
     /// Answers one request that is left, and makes one write step.
     fn round(&mut self) -> Result<(), NodeError>
-        requires open { self.old.node.store.halted ≡ false }
-        requires none_kept { self.old.node.waiting.kept ≡ false }
-        requires left { 0 < length self.old.node.waiting.requests + length self.old.rest.items }
-        ensures opened { self.new.node.opened ≡ self.old.node.opened }
-        ensures moves { MovesOn (D.moment self.old.node.store.disk) self.old.node.core.entries self.new.node.core.entries self.old.node.waiting self.new.node.waiting self.old.rest.items self.new.rest.items }
-        ensures none_kept { OnOk result (self.new.node.waiting.kept ≡ false) }
+        requires open { IsRunning self.old.node }
+        requires none_kept { (waiting self.old.node).kept ≡ false }
+        requires left { 0 < length (requests self.old.node) + length self.old.rest.items }
+        ensures moves { Moves self.old.node self.new.node self.old.rest.items self.new.rest.items }
+        ensures none_kept { OnOk result ((waiting self.new.node).kept ≡ false) }
         ensures after { self.new.after ≡ self.old.after }
-        ensures fewer { OnOk result (length self.old.node.waiting.requests + length self.old.rest.items ≡ length self.new.node.waiting.requests + length self.new.rest.items + 1) }
-        ensures goes_on { OnOk result (self.new.node.store.halted ≡ false) }
-        ensures no_stop { IsErrOf result NodeError.Stopped → ⊥ }
-        ensures later { D.moment self.old.node.store.disk ≤ D.moment self.new.node.store.disk }
-        ensures cause { CausedOf node_fault (D.faults self.old.node.store.disk) (D.faults self.new.node.store.disk) result }
-        ensures strike { StruckByOf node_fault (D.fuse self.old.node.store.disk) (D.moment self.new.node.store.disk) (D.struck self.old.node.store.disk) (D.struck self.new.node.store.disk) result }
-        ensures plan { KeepsPlan (D.fuse self.old.node.store.disk) (D.planned self.old.node.store.disk) (D.fuse self.new.node.store.disk) (D.planned self.new.node.store.disk) }
+        ensures fewer { OnOk result
+            (length (requests self.old.node) + length self.old.rest.items ≡ length
+            (requests self.new.node) + length self.new.rest.items + 1) }
+        ensures goes { Goes self.old.node self.new.node result }
     {
         self.answer_one()?;
         let _ = self.write()?;
@@ -300,20 +268,16 @@ impl<D: Crashable> Player<D> {
 
     /// Answers one request that is left.
     fn answer_one(&mut self) -> Result<(), NodeError>
-        requires open { self.old.node.store.halted ≡ false }
-        requires none_kept { self.old.node.waiting.kept ≡ false }
-        requires left { 0 < length self.old.node.waiting.requests + length self.old.rest.items }
-        ensures opened { self.new.node.opened ≡ self.old.node.opened }
-        ensures moves { MovesOn (D.moment self.old.node.store.disk) self.old.node.core.entries self.new.node.core.entries self.old.node.waiting self.new.node.waiting self.old.rest.items self.new.rest.items }
-        ensures none_kept { OnOk result (self.new.node.waiting.kept ≡ false) }
+        requires open { IsRunning self.old.node }
+        requires none_kept { (waiting self.old.node).kept ≡ false }
+        requires left { 0 < length (requests self.old.node) + length self.old.rest.items }
+        ensures moves { Moves self.old.node self.new.node self.old.rest.items self.new.rest.items }
+        ensures none_kept { OnOk result ((waiting self.new.node).kept ≡ false) }
         ensures after { self.new.after ≡ self.old.after }
-        ensures fewer { OnOk result (length self.old.node.waiting.requests + length self.old.rest.items ≡ length self.new.node.waiting.requests + length self.new.rest.items + 1) }
-        ensures goes_on { OnOk result (self.new.node.store.halted ≡ false) }
-        ensures no_stop { IsErrOf result NodeError.Stopped → ⊥ }
-        ensures later { D.moment self.old.node.store.disk ≤ D.moment self.new.node.store.disk }
-        ensures cause { CausedOf node_fault (D.faults self.old.node.store.disk) (D.faults self.new.node.store.disk) result }
-        ensures strike { StruckByOf node_fault (D.fuse self.old.node.store.disk) (D.moment self.new.node.store.disk) (D.struck self.old.node.store.disk) (D.struck self.new.node.store.disk) result }
-        ensures plan { KeepsPlan (D.fuse self.old.node.store.disk) (D.planned self.old.node.store.disk) (D.fuse self.new.node.store.disk) (D.planned self.new.node.store.disk) }
+        ensures fewer { OnOk result
+            (length (requests self.old.node) + length self.old.rest.items ≡ length
+            (requests self.new.node) + length self.new.rest.items + 1) }
+        ensures goes { Goes self.old.node self.new.node result }
     {
         match self.turn()? {
             Turn::Moved => Ok(()),
@@ -327,20 +291,13 @@ impl<D: Crashable> Player<D> {
 
     /// Makes write steps until nothing is left to write.
     fn write_all(&mut self) -> Result<(), NodeError>
-        requires open { self.old.node.store.halted ≡ false }
-        requires none_kept { self.old.node.waiting.kept ≡ false }
-        ensures opened { self.new.node.opened ≡ self.old.node.opened }
-        ensures moves { MovesOn (D.moment self.old.node.store.disk) self.old.node.core.entries self.new.node.core.entries self.old.node.waiting self.new.node.waiting self.old.rest.items self.new.rest.items }
-        ensures same { (self.new.node.waiting ≡ self.old.node.waiting) × (self.new.rest ≡ self.old.rest) }
-        ensures confirmed { OnOk result (AreConfirmed self.new.node.core.entries) }
-        ensures held { OnOk result (D.tells → ∥ Held (as_read (D.files self.new.node.store.disk)) (line self.new.node.core.entries) ∥₁) }
+        requires open { IsRunning self.old.node }
+        requires none_kept { (waiting self.old.node).kept ≡ false }
+        ensures moves { Moves self.old.node self.new.node self.old.rest.items self.new.rest.items }
+        ensures same { ((waiting self.new.node) ≡ (waiting self.old.node)) × (self.new.rest ≡ self.old.rest) }
+        ensures written { OnOk result (IsWritten self.new.node) }
         ensures after { self.new.after ≡ self.old.after }
-        ensures goes_on { OnOk result (self.new.node.store.halted ≡ false) }
-        ensures no_stop { IsErrOf result NodeError.Stopped → ⊥ }
-        ensures later { D.moment self.old.node.store.disk ≤ D.moment self.new.node.store.disk }
-        ensures cause { CausedOf node_fault (D.faults self.old.node.store.disk) (D.faults self.new.node.store.disk) result }
-        ensures strike { StruckByOf node_fault (D.fuse self.old.node.store.disk) (D.moment self.new.node.store.disk) (D.struck self.old.node.store.disk) (D.struck self.new.node.store.disk) result }
-        ensures plan { KeepsPlan (D.fuse self.old.node.store.disk) (D.planned self.old.node.store.disk) (D.fuse self.new.node.store.disk) (D.planned self.new.node.store.disk) }
+        ensures goes { Goes self.old.node self.new.node result }
     {
         loop {
             match self.write()? {

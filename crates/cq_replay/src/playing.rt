@@ -3,6 +3,7 @@ ghost use Rattle.std.specs.Prelude.{◌≡◌, ◌≢◌, ◌≤◌, ◌<◌, �
 ghost use Rattle.std.specs.List.{list_all};
 ghost use Rattle.cq_disk.specs.declared.name.Name.{Name};
 ghost use Rattle.cq_disk.specs.Rose.{Rose};
+ghost use Rattle.cq_disk.specs.Run.{RanOn};
 ghost use Rattle.cq_disk.specs.Files.{IsImage, NamesAre, SameFiles};
 ghost use Rattle.cq_disk.specs.Call.{Image, CausedOf};
 ghost use Rattle.cq_held.specs.Held.{as_read, Held};
@@ -17,14 +18,16 @@ ghost use Rattle.cq_journal.specs.Legal.{Legal};
 ghost use Rattle.cq_memdisk.specs.Crash.{Crashed};
 ghost use Rattle.cq_node.specs.Files.{HasFew, HasNoOther};
 ghost use Rattle.cq_node.specs.Opening.{IfBroken};
+ghost use Rattle.cq_inbox.specs.Config.{clients_of};
+ghost use Rattle.cq_node.specs.View.{entries, disk_of};
 ghost use Rattle.cq_node.specs.Waiting.{is_servable};
 ghost use Rattle.cq_print.specs.Text.{text_of};
 ghost use Rattle.cq_script.specs.declared.script.StepWord.{StepWord};
 ghost use Rattle.cq_script.specs.Scripts.{KeepsLimits, is_crash, crashes};
-ghost use Rattle.cq_replay.specs.Between.{image_in, IsSplit, IsReady, IsUpTo, TakesOn, HasPlayed, TakesToEnd, TakesTexts};
-ghost use Rattle.cq_replay.specs.Running.{IsFresh};
+ghost use Rattle.cq_replay.specs.Between.{image_in, CanRestart, IsSplit, LacksMemory, Restarts, IsReady, IsUpTo, TakesOn, HasPlayed, TakesToEnd, TakesTexts};
+ghost use Rattle.cq_replay.specs.Going.{HasBegun};
 ghost use Rattle.cq_replay.specs.Sessions.{AllTexts, texts_of};
-ghost use Rattle.cq_replay.specs.Played.{AreSessions, ServeAll, IsRight, Ended, IfFailed, InSession, LastHeld, LastSteady, LastAgrees};
+ghost use Rattle.cq_replay.specs.Played.{AreSessions, IsRight, EndsOn, IfFailed, InSession, IsEmpty, IsLeft, IsServed, LastSteady, Puts};
 
 use crate::player::Player;
 use crate::session::{Finished, serve_session};
@@ -72,26 +75,23 @@ pub fn play<C: Crashable, W: Sink>(
     sink: &mut W,
 ) -> Played<C>
     requires limits { KeepsLimits script }
-    requires no_files { (n : Name) → C.files scratch n ≡ None }
-    requires no_fuse { C.fuse scratch ≡ None }
+    requires empty { IsEmpty C.Disk scratch }
     // Whatever the ending, the sessions are those of the script: what each did was allowed, the requests are answered in their
     // order and the words done in theirs, each session but the last was ended by a crash, and what the next opening found
     // survives its journal.
     ensures sessions { AreSessions script.streams script.steps result.sessions.items }
     // Where all was served, all requests and words are. Then the last session's publishes are confirmed, the files hold exactly
     // its messages, and the sink took the lines of all texts.
-    ensures served { result.ending ≡ Ending.Served → ServeAll script.streams script.steps result.sessions.items }
-    ensures held { result.ending ≡ Ending.Served → LastHeld (C.files result.scratch) result.sessions.items }
-    ensures texts { result.ending ≡ Ending.Served → AllTexts (W.pieces sink.old) (W.pieces sink.new) result.sessions.items }
+    ensures served { result.ending ≡ Ending.Served
+        → IsServed C.Disk W.Sink script.streams script.steps result.scratch sink.old sink.new result.sessions.items }
     // A crash at any moment of the last session has left what agrees with its journal; and whatever the ending, a crash leaves
     // that now.
-    ensures steady { InSession result.ending → LastSteady (C.left result.scratch) (C.moment result.scratch) result.sessions.items }
-    ensures agrees { (image : Image) → IsImage (C.files result.scratch) image → LastAgrees image result.sessions.items }
+    ensures steady { InSession result.ending
+        → LastSteady (C.left result.scratch) (C.moment result.scratch) result.sessions.items }
+    ensures left { IsLeft C.Disk result.scratch result.sessions.items }
     // A fault is answered only where one came.
-    ensures later { C.faults scratch ≤ C.faults result.scratch }
-    ensures failed { Ended result.ending (C.faults scratch) (C.faults result.scratch) (C.struck scratch) (C.struck result.scratch) }
-    ensures output { result.ending ≡ Ending.Output → Rose (W.faults sink.old) (W.faults sink.new) }
-    ensures sink_later { W.faults sink.old ≤ W.faults sink.new }
+    ensures ends { EndsOn C.Disk scratch result.scratch result.ending }
+    ensures puts { Puts W.Sink sink.old sink.new (result.ending ≡ Ending.Output) }
 {
     let Script {
         config,
@@ -195,18 +195,18 @@ fn play_on<C: Crashable, W: Sink>(
     mut sessions: Vec<Session>,
     sink: &mut W,
 ) -> Played<C>
-    requires one_client { config.clients ≡ 1 }
+    requires one_client { clients_of config ≡ 1 }
     requires none { sessions.items ≡ [] }
     requires room { crashes pause.words.now < vec_capacity sessions }
     requires few { crashes pause.words.now ≤ 1000 }
     requires empty { (n : Name) → C.files pause.scratch n ≡ None }
     requires ready { IsReady (C.files pause.scratch) (C.fuse pause.scratch) pause.rest.items }
-    ensures played { HasPlayed pause.entry.rest.items pause.entry.words.now result.ending result.sessions.items (C.files result.scratch) (C.left result.scratch) (C.moment result.scratch) }
-    ensures texts { result.ending ≡ Ending.Served → AllTexts (W.pieces sink.old) (W.pieces sink.new) result.sessions.items }
-    ensures later { C.faults pause.entry.scratch ≤ C.faults result.scratch }
-    ensures failed { Ended result.ending (C.faults pause.entry.scratch) (C.faults result.scratch) (C.struck pause.entry.scratch) (C.struck result.scratch) }
-    ensures output { result.ending ≡ Ending.Output → Rose (W.faults sink.old) (W.faults sink.new) }
-    ensures sink_later { W.faults sink.old ≤ W.faults sink.new }
+    ensures played { HasPlayed pause.entry.rest.items pause.entry.words.now result.ending result.sessions.items
+        (C.files result.scratch) (C.left result.scratch) (C.moment result.scratch) }
+    ensures texts { result.ending ≡ Ending.Served
+        → AllTexts (W.pieces sink.old) (W.pieces sink.new) result.sessions.items }
+    ensures ends { EndsOn C.Disk pause.entry.scratch result.scratch result.ending }
+    ensures puts { Puts W.Sink sink.old sink.new (result.ending ≡ Ending.Output) }
 {
     loop {
         match next_session(alloc, config, pause, &mut sessions, sink) {
@@ -230,21 +230,27 @@ fn next_session<'a, C: Crashable, W: Sink>(
     sessions: &mut Vec<Session>,
     sink: &mut W,
 ) -> Result<Pause<'a, C>, Over<C>>
-    requires one_client { config.clients ≡ 1 }
+    requires one_client { clients_of config ≡ 1 }
     requires room { length sessions.old.items + crashes pause.words.now < vec_capacity sessions.old }
     requires few { length sessions.old.items + crashes pause.words.now ≤ 1000 }
     requires ready { IsReady (C.files pause.scratch) (C.fuse pause.scratch) pause.rest.items }
     ensures ready { IfOk result (λ next. IsReady (C.files next.scratch) (C.fuse next.scratch) next.rest.items) }
-    ensures takes_on { IfOk result (λ next. TakesOn sessions.old.items pause.entry.rest.items pause.entry.words.now (C.files pause.entry.scratch) sessions.new.items next.rest.items next.words.now (C.files next.scratch)) }
-    ensures takes_to_end { IfErr result (λ over. TakesToEnd sessions.old.items pause.entry.rest.items pause.entry.words.now (C.files pause.entry.scratch) over.ending sessions.new.items (C.files over.scratch) (C.left over.scratch) (C.moment over.scratch)) }
+    ensures takes_on { IfOk result
+        (λ next. TakesOn C.Disk sessions.old.items pause.entry.rest.items pause.entry.words.now pause.entry.scratch sessions.new.items next.rest.items next.words.now next.scratch) }
+    ensures takes_to_end { IfErr result
+        (λ over. TakesToEnd C.Disk sessions.old.items pause.entry.rest.items pause.entry.words.now pause.entry.scratch over.ending sessions.new.items over.scratch) }
     // There is one session more, and at least one crash less.
-    ensures one_more { IfOk result (λ next. (length sessions.new.items ≡ length sessions.old.items + 1) × (crashes next.words.now + 1 ≤ crashes pause.entry.words.now)) }
+    ensures one_more { IfOk result
+        (λ next. (length sessions.new.items ≡ length sessions.old.items + 1)
+        × (crashes next.words.now + 1 ≤ crashes pause.entry.words.now)) }
     ensures capacity { vec_capacity sessions.new ≡ vec_capacity sessions.old }
-    ensures texts { IfOk result (λ next. TakesTexts (W.pieces sink.old) sessions.old.items (W.pieces sink.new) sessions.new.items) }
-    ensures last_text { IfErr result (λ over. over.ending ≡ Ending.Served → TakesTexts (W.pieces sink.old) sessions.old.items (W.pieces sink.new) sessions.new.items) }
-    ensures later { IfOk result (λ next. (C.faults pause.entry.scratch ≤ C.faults next.scratch) × (C.struck pause.entry.scratch ≤ C.struck next.scratch)) }
-    ensures last_later { IfErr result (λ over. C.faults pause.entry.scratch ≤ C.faults over.scratch) }
-    ensures failed { IfErr result (λ over. Ended over.ending (C.faults pause.entry.scratch) (C.faults over.scratch) (C.struck pause.entry.scratch) (C.struck over.scratch)) }
+    ensures texts { IfOk result
+        (λ next. TakesTexts (W.pieces sink.old) sessions.old.items (W.pieces sink.new) sessions.new.items) }
+    ensures last_text { IfErr result
+        (λ over. over.ending ≡ Ending.Served
+        → TakesTexts (W.pieces sink.old) sessions.old.items (W.pieces sink.new) sessions.new.items) }
+    ensures ran { IfOk result (λ next. RanOn C.Disk pause.entry.scratch next.scratch ⊥) }
+    ensures ends { IfErr result (λ over. EndsOn C.Disk pause.entry.scratch over.scratch over.ending) }
     ensures output { IfErr result (λ over. over.ending ≡ Ending.Output → Rose (W.faults sink.old) (W.faults sink.new)) }
     ensures sink_later { W.faults sink.old ≤ W.faults sink.new }
 {
@@ -291,19 +297,19 @@ fn open<C: Crashable>(
     rest: VecDeque<Request>,
     scratch: C,
 ) -> Result<Player<C>, Over<C>>
-    requires one_client { config.clients ≡ 1 }
+    requires one_client { clients_of config ≡ 1 }
     requires ready { IsReady (C.files scratch) (C.fuse scratch) rest.items }
-    ensures running { IfOk result (λ player. (player.node.store.halted ≡ false) × (C.fuse player.node.store.disk ≡ None)) }
-    ensures fresh { IfOk result (λ player. IsFresh (C.moment player.node.store.disk) player.node.core.entries player.node.waiting player.after.items) }
+    ensures begun { IfOk result (λ player. HasBegun player.node player.after.items) }
     ensures rest { IfOk result (λ player. player.rest.items ≡ rest.items) }
     ensures numbered { IfOk result (λ player. player.node.config.session ≡ number) }
-    ensures found { IfOk result (λ player. Held (as_read (C.files scratch)) (line player.node.core.entries)) }
-    ensures later { IfOk result (λ player. (C.faults scratch ≤ C.faults player.node.store.disk) × (C.struck scratch ≤ C.struck player.node.store.disk)) }
+    ensures found { IfOk result (λ player. Held (as_read (C.files scratch)) (line (entries player.node))) }
+    ensures ran { IfOk result (λ player. RanOn C.Disk scratch (disk_of player.node) ⊥) }
     // Where it failed, a crash leaves what agrees with the journals that the folder agreed with.
     ensures between { IfErr result (λ over. InSession over.ending → ⊥) }
-    ensures agrees { IfErr result (λ over. (past : List Entry) → Agrees (as_read (C.files scratch)) past → (image : Image) → IsImage (C.files over.scratch) image → Agrees image past) }
-    ensures last_later { IfErr result (λ over. C.faults scratch ≤ C.faults over.scratch) }
-    ensures failed { IfErr result (λ over. Ended over.ending (C.faults scratch) (C.faults over.scratch) (C.struck scratch) (C.struck over.scratch)) }
+    ensures agrees { IfErr result
+        (λ over. (past : List Entry) → Agrees (as_read (C.files scratch)) past → (image : Image)
+        → IsImage (C.files over.scratch) image → Agrees image past) }
+    ensures ends { IfErr result (λ over. EndsOn C.Disk scratch over.scratch over.ending) }
 {
     let Ok(inbox) = PlainInbox::new(alloc, 1) else {
         return Err(Over {
@@ -332,7 +338,7 @@ fn open<C: Crashable>(
 
 /// The numbers of the node in the session of this number.
 fn numbered(config: Config, number: u32) -> Config
-    ensures clients { result.clients ≡ config.clients }
+    ensures clients { clients_of result ≡ clients_of config }
     ensures session { result.session ≡ number }
 {
     let Some(config) = Config::new(
@@ -370,7 +376,9 @@ fn put_text<W: Sink>(
 ) -> Ending
     requires { Legal session.now.journal.entries }
     ensures served { result ≡ Ending.Served → served ≡ Ok tt }
-    ensures text { result ≡ Ending.Served → Adds (W.pieces sink.old) (W.pieces sink.new) (text_of number session.now.journal.entries session.now.cut.items) }
+    ensures text { result ≡ Ending.Served
+        → Adds (W.pieces sink.old) (W.pieces sink.new)
+        (text_of number session.now.journal.entries session.now.cut.items) }
     ensures failed { IfFailed result (λ error. (served ≡ Err error) × (error ≢ NodeError.Memory)) }
     ensures opened { (error : OpenError) → result ≡ Ending.Opening error → ⊥ }
     ensures output { result ≡ Ending.Output → Rose (W.faults sink.old) (W.faults sink.new) }
@@ -399,19 +407,11 @@ fn restart<'a, C: Crashable>(
     later: &'a [StepWord],
 ) -> Result<Pause<'a, C>, Over<C>>
     requires crash { is_crash crash ≡ true }
-    requires servable { list_all is_servable (waiting.requests ++ rest.items) ≡ true }
-    requires few { (count : ℕ) × HasFew (C.files disk (index_name 0 0)) count × (count + publishes (waiting.requests ++ rest.items) ≤ 4096) }
-    requires alone { HasNoOther (C.files disk) }
-    requires sound { (image : Image) → IsImage (C.files disk) image → Sound image }
+    requires can { CanRestart C.Disk disk (waiting.requests ++ rest.items) }
     ensures words { IfOk result (λ next. next.words.now ≡ later.now) }
     ensures rest { IfOk result (λ next. next.rest.items ≡ waiting.requests ++ rest.items) }
-    ensures crashed { IfOk result (λ next. (names : List Name) × NamesAre (C.files disk) names × Crashed (image_in crash) names (C.files disk) (C.files next.scratch)) }
-    ensures ready { IfOk result (λ next. IsReady (C.files next.scratch) (C.fuse next.scratch) next.rest.items) }
-    ensures left { IfOk result (λ next. IsImage (C.files disk) (as_read (C.files next.scratch))) }
-    ensures counts { IfOk result (λ next. (C.faults next.scratch ≡ C.faults disk) × (C.struck next.scratch ≡ C.struck disk)) }
-    ensures ending { IfErr result (λ over. over.ending ≡ Ending.Memory) }
-    ensures same_files { IfErr result (λ over. SameFiles (C.files disk) (C.files over.scratch)) }
-    ensures last_counts { IfErr result (λ over. (C.faults over.scratch ≡ C.faults disk) × (C.struck over.scratch ≡ C.struck disk)) }
+    ensures restarts { IfOk result (λ next. Restarts C.Disk disk next.scratch crash next.rest.items) }
+    ensures fails { IfErr result (λ over. LacksMemory C.Disk disk over.scratch over.ending) }
 {
     let image = image_of(crash);
     let back = put_back(&mut waiting, &mut rest);

@@ -77,3 +77,7 @@ abbrev pub ReadsBack : Result Script ScriptError → List Request → List StepW
 ReadsBack (Ok script) requests steps = (script.streams ≡ requests ∷ []) × (script.steps ≡ steps) × (script.scheduled ≡ schedule_place requests steps)
 ReadsBack (Err Memory) requests steps = Unit {0}
 ReadsBack (Err (Bad n w)) requests steps = ⊥
+
+-- where these bytes spell requests and steps within the limits, they read back as those
+abbrev pub ReadsSpelled : Result Script ScriptError → List ℕ → Type 0
+ReadsSpelled result bytes = (requests : List Request) (steps : List StepWord) → AreSpellable requests steps → bytes ≡ spelling requests steps → ReadsBack result requests steps

@@ -3,9 +3,7 @@ ghost use Rattle.std.specs.Prelude.{◌≡◌, ◌≤◌, ◌+◌, ◌∷◌, []
 ghost use Rattle.cq_script.specs.Words.{line_ends};
 ghost use Rattle.cq_script.specs.Grammar.{Reads, script_of, take_line, take_lines, nothing_read, AtLine};
 ghost use Rattle.cq_script.specs.Scripts.{ReadsScript, IsScript, KeepsLimits};
-ghost use Rattle.cq_script.specs.Spelling.{AreSpellable, spelling, ReadsBack};
-ghost use Rattle.cq_inbox.specs.declared.request.Request.{Request};
-ghost use Rattle.cq_script.specs.declared.script.StepWord.{StepWord};
+ghost use Rattle.cq_script.specs.Spelling.{ReadsSpelled};
 
 use crate::lines::{is_printable, is_spaced, line_ends, script_lines, words};
 use crate::reading::{LineError, Reading};
@@ -24,11 +22,12 @@ const MOST_BYTES: usize = 1_048_576;
 pub fn read_script(alloc: Global, bytes: &[u8]) -> Result<Script, ScriptError>
     ensures exact { ReadsScript result (script_of bytes.now) }
     ensures limits { IfOk result KeepsLimits }
-    ensures spelled { (requests : List Request) (steps : List StepWord) → AreSpellable requests steps → bytes.now ≡ spelling requests steps → ReadsBack result requests steps }
+    ensures spelled { ReadsSpelled result bytes.now }
 {
     script_from(alloc, bytes)
 }
 
+/// The same, as the form says it, which the limits and the spelling follow from.
 fn script_from(alloc: Global, bytes: &[u8]) -> Result<Script, ScriptError>
     ensures { ReadsScript result (script_of bytes.now) }
 {
@@ -65,6 +64,7 @@ fn too_long(bytes: &[u8]) -> ScriptError
     }
 }
 
+/// What the lines of a script say.
 fn read(alloc: Global, bytes: &[u8]) -> Result<Reading, ScriptError>
     ensures { Reads result (script_of bytes.now) }
 {
@@ -77,6 +77,7 @@ fn read(alloc: Global, bytes: &[u8]) -> Result<Reading, ScriptError>
     }
 }
 
+/// Reads one line after another, up to the first bad one.
 fn read_lines(alloc: Global, lines: &[&[u8]]) -> Result<Reading, ScriptError>
     ensures { Reads result (take_lines 1 (Ok nothing_read) (map (λ l. l.now) lines.now)) }
 {

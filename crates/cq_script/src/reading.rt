@@ -11,7 +11,9 @@ use std::alloc::{AllocError, Global};
 /// Why a line wasn't read.
 #[derive(Clone, Copy, Debug, PartialEq, Eq)]
 pub enum LineError {
+    /// Memory ran out.
     Memory,
+    /// The line is bad.
     Bad(Why),
 }
 
@@ -61,6 +63,7 @@ impl Reading {
         }
     }
 
+    /// Takes the words behind `client`.
     fn take_client(&mut self, rest: &[&[u8]]) -> Result<(), LineError>
         ensures { Gives result self.new (take_client self.old (map (λ w. w.now) rest.now)) }
     {
@@ -77,6 +80,7 @@ impl Reading {
         Ok(())
     }
 
+    /// Takes the words behind `get`.
     fn take_get(&mut self, rest: &[&[u8]]) -> Result<(), LineError>
         ensures { Gives result self.new (take_get self.old (map (λ w. w.now) rest.now)) }
     {
@@ -99,6 +103,7 @@ impl Reading {
         Ok(())
     }
 
+    /// Takes the words behind `publish`.
     fn take_publish(&mut self, alloc: Global, rest: &[&[u8]]) -> Result<(), LineError>
         ensures { Gives result self.new (take_publish self.old (map (λ w. w.now) rest.now)) }
     {
@@ -128,6 +133,7 @@ impl Reading {
         Ok(())
     }
 
+    /// Takes the words behind `schedule`, in the line with this number.
     fn take_schedule(&mut self, number: u64, rest: &[&[u8]]) -> Result<(), LineError>
         ensures { Gives result self.new (take_schedule number self.old (map (λ w. w.now) rest.now)) }
     {

@@ -165,7 +165,8 @@ pub(crate) fn put_in(
     place: Place,
 ) -> Result<(), AllocError>
     requires { total whole_len (map.insert (records_at files.old place.file) id place) < 2 ^ 64 }
-    ensures ok { OnOk result (ChangesFile files.old files.new place.file (map.insert (records_at files.old place.file) id place)) }
+    ensures ok { OnOk result
+        (ChangesFile files.old files.new place.file (map.insert (records_at files.old place.file) id place)) }
     ensures err { OnErr result ((f : ℕ) → records_at files.new f ≡ records_at files.old f) }
     ensures absent { OnErr result (map.get (records_at files.old place.file) id ≡ None) }
 {

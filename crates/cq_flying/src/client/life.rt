@@ -14,7 +14,7 @@ pub struct MadeClient {
     pub look_end: LookEnd,
 }
 
-// Nothing is written into any word.
+/// Nothing is written into any word.
 fn none_written() -> [u64; 64]
     ensures { result ≡ replicate 64 0 }
 {
@@ -24,8 +24,10 @@ fn none_written() -> [u64; 64]
 impl ClientWords {
     /// Words of which none is open.
     pub fn new(alloc: Global) -> Result<MadeClient, AllocError>
-        ensures ends { IfOk result (λ m. (own_end_id m.own_end ≡ words_id m.words) × (look_end_id m.look_end ≡ words_id m.words)) }
-        ensures fresh { IfOk result (λ m. (dropped_at m.own_end ≡ []) × (seen_at m.look_end ≡ []) × (names m.look_end ≡ replicate 64 0)) }
+        ensures ends { IfOk result
+            (λ m. (own_end_id m.own_end ≡ words_id m.words) × (look_end_id m.look_end ≡ words_id m.words)) }
+        ensures fresh { IfOk result
+            (λ m. (dropped_at m.own_end ≡ []) × (seen_at m.look_end ≡ []) × (names m.look_end ≡ replicate 64 0)) }
     {
         let (table, mut seat) = Table::of_words(alloc, &[0; 64], &())?;
         let other = table.shared.split_seat::<Roles>(&mut seat);

@@ -1,23 +1,25 @@
 // What the looker does with a client's words.
 ghost use Rattle.std.specs.Prelude.{◌≡◌, ◌≢◌, ◌+◌, ◌<◌, ◌++◌, [], ◌∷◌, length, Contains, MatchBool, MatchOption, slice_index, slice_set};
 ghost use Rattle.std.specs.List.{AllWithin, HoldsAt};
-ghost use Rattle.cq_inbox.specs.Flags.{Joins, Leaves};
+ghost use Rattle.cq_inbox.specs.Flags.{IsFree, Joins, Leaves};
 ghost use Rattle.cq_flying.specs.Ends.{words_id, look_end_id, seen_at, names, end_looks, opened, OpensLowest, IsLook};
 
 use super::{ClientWords, LookEnd};
 use crate::view::{Looks, Names};
 
 impl LookEnd {
-    // The lowest word where none is written.
+    /// The lowest word where none is written.
     fn free(&self) -> Option<usize>
-        ensures { MatchOption result (AllWithin (λ n. 0 < n) (names self.now) 0 64) (λ i. (i < 64) × HoldsAt (λ n. n ≡ 0) (names self.now) i × AllWithin (λ n. 0 < n) (names self.now) 0 i) }
+        ensures { MatchOption result (AllWithin (λ n. 0 < n) (names self.now) 0 64)
+            (λ i. (i < 64) × HoldsAt (λ n. n ≡ 0) (names self.now) i × AllWithin (λ n. 0 < n) (names self.now) 0 i) }
     {
         self.names.iter().position(|name| *name == 0)
     }
 
-    // The word where the delivery is written.
+    /// The word where the delivery is written.
     fn place(&self, delivery: u32) -> Option<usize>
-        ensures { MatchOption result (AllWithin (λ n. n ≢ delivery + 1) (names self.now) 0 64) (λ i. (i < 64) × HoldsAt (λ n. n ≡ delivery + 1) (names self.now) i) }
+        ensures { MatchOption result (AllWithin (λ n. n ≢ delivery + 1) (names self.now) 0 64)
+            (λ i. (i < 64) × HoldsAt (λ n. n ≡ delivery + 1) (names self.now) i) }
     {
         let name = delivery as u64 + 1;
         self.names.iter().position(|other| *other == name)
@@ -26,8 +28,7 @@ impl LookEnd {
     /// Opens the delivery in the lowest word that is none.
     pub fn open(&mut self, words: &ClientWords, delivery: u32)
         requires words { look_end_id self.old ≡ words_id words.now }
-        requires room { length (opened (names self.old)) < 64 }
-        requires fresh { ¬ Contains (opened (names self.old)) delivery }
+        requires free { IsFree delivery (opened (names self.old)) }
         ensures same { (look_end_id self.new ≡ look_end_id self.old) × (seen_at self.new ≡ seen_at self.old) }
         ensures lowest { OpensLowest delivery (names self.old) (names self.new) }
         ensures opened { Joins delivery (opened (names self.old)) (opened (names self.new)) }
@@ -48,7 +49,8 @@ impl LookEnd {
         requires words { look_end_id self.old ≡ words_id words.now }
         requires opened { Contains (opened (names self.old)) delivery }
         ensures same { (look_end_id self.new ≡ look_end_id self.old) × (names self.new ≡ names self.old) }
-        ensures seen { MatchBool result (seen_at self.new ≡ seen_at self.old ++ delivery ∷ []) (seen_at self.new ≡ seen_at self.old) }
+        ensures seen { MatchBool result (seen_at self.new ≡ seen_at self.old ++ delivery ∷ [])
+            (seen_at self.new ≡ seen_at self.old) }
         ensures look { IsLook result delivery (names self.old) (end_looks self.old) (end_looks self.new) }
     {
         let Some(word) = self.place(delivery) else {

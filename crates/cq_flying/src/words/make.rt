@@ -10,9 +10,12 @@ impl Words {
     /// Words for so many clients, of which none is open, with all the memory that they will need.
     pub fn new(alloc: Global, clients: u32) -> Result<MadeWords, AllocError>
         ensures count { IfOk result (λ m. length (word_ids m.words) ≡ clients) }
-        ensures ends { IfOk result (λ m. (owner_ids m.owners.items ≡ word_ids m.words) × (seat_ids m.looker ≡ word_ids m.words)) }
+        ensures ends { IfOk result
+            (λ m. (owner_ids m.owners.items ≡ word_ids m.words) × (seat_ids m.looker ≡ word_ids m.words)) }
         ensures owners { IfOk result (λ m. All (IsOwnerOf m.words) m.owners.items) }
-        ensures fresh { IfOk result (λ m. (c : ℕ) → (dropped_of m.owners.items c ≡ []) × (opened_of m.looker c ≡ []) × (seen_of m.looker c ≡ [])) }
+        ensures fresh { IfOk result
+            (λ m. (c : ℕ)
+            → (dropped_of m.owners.items c ≡ []) × (opened_of m.looker c ≡ []) × (seen_of m.looker c ≡ [])) }
     {
         let mut words = Vec::new(alloc);
         let mut owners = Vec::new(alloc);

@@ -19,7 +19,7 @@ pub struct CloseRefused {
     pub seats: LaneSeats,
 }
 
-// Empty lists, each with room for what is left of one client.
+/// Empty lists, each with room for what is left of one client.
 fn rooms(alloc: Global, count: usize) -> Result<Vec<Vec<Request>>, AllocError>
     ensures { IfOk result (λ v. (vec_len v ≡ count) × ((k : ℕ) (w : Room) → get_elem? v.items k ≡ some w → IsRoom w)) }
 {
@@ -31,10 +31,11 @@ fn rooms(alloc: Global, count: usize) -> Result<Vec<Vec<Request>>, AllocError>
     Ok(all)
 }
 
-// Moves what is left of each client into its list.
+/// Moves what is left of each client into its list.
 fn drain(lanes: Lanes, mut senders: Vec<Sender>, seats: LaneSeats, rooms: &mut Vec<Vec<Request>>)
     requires ends { (sender_ids senders.items ≡ lane_ids lanes) × (seat_ids seats ≡ lane_ids lanes) }
-    requires rooms { (vec_len rooms.old ≡ vec_len senders) × ((k : ℕ) (w : Room) → get_elem? rooms.old.items k ≡ some w → IsRoom w) }
+    requires rooms { (vec_len rooms.old ≡ vec_len senders)
+        × ((k : ℕ) (w : Room) → get_elem? rooms.old.items k ≡ some w → IsRoom w) }
     ensures { Drained senders.items seats rooms.new.items }
 {
     let Lanes { mut lanes } = lanes;
@@ -62,7 +63,8 @@ pub fn close(
 ) -> Result<Vec<Vec<Request>>, CloseRefused>
     requires senders { sender_ids senders.items ≡ lane_ids lanes }
     requires seats { seat_ids seats ≡ lane_ids lanes }
-    ensures { MatchResult result (λ left. Leaves senders.items seats left.items) (λ r. (r.lanes ≡ lanes) × (r.senders ≡ senders) × (r.seats ≡ seats)) }
+    ensures { MatchResult result (λ left. Leaves senders.items seats left.items)
+        (λ r. (r.lanes ≡ lanes) × (r.senders ≡ senders) × (r.seats ≡ seats)) }
 {
     match rooms(alloc, senders.len()) {
         Ok(mut rooms) => {

@@ -32,7 +32,8 @@ fn note_waiting(waiting: &mut Line, slot: &Option<Item>, at: usize)
 /// Notes the place of a message that is out.
 fn note_out(outs: &mut Outs, slot: &Option<Item>, at: usize)
     requires { (c d : ℕ) → passes (out_for c d) slot.now ≡ true → is_some (find c d outs.old.held) ≡ true }
-    ensures places { (x y : ℕ) → find x y outs.new.held ≡ (if passes (out_for x y) slot.now then Some at else find x y outs.old.held) }
+    ensures places { (x y : ℕ)
+        → find x y outs.new.held ≡ (if passes (out_for x y) slot.now then Some at else find x y outs.old.held) }
     ensures len { length outs.new.held ≡ length outs.old.held }
     ensures room { outs.new.room ≡ outs.old.room }
 {
@@ -76,12 +77,10 @@ fn renumber(
     requires waiting_fits { length (waiting_items (alive slots.now.items)) ≤ waiting.old.room }
     requires gone_fits { length (settled_items (alive slots.now.items)) ≤ vec_capacity gone.old }
     ensures waiting { waiting.new.items ≡ places waits 0 slots.now.items }
-    ensures waiting_room { waiting.new.room ≡ waiting.old.room }
     ensures out { FindsOut slots.now.items outs.new.held }
-    ensures out_len { length outs.new.held ≡ length outs.old.held }
-    ensures out_room { outs.new.room ≡ outs.old.room }
     ensures gone { ListsGone slots.now.items gone.new.items }
-    ensures gone_room { vec_capacity gone.new ≡ vec_capacity gone.old }
+    ensures rooms { (waiting.new.room ≡ waiting.old.room) × (outs.new.room ≡ outs.old.room)
+        × (length outs.new.held ≡ length outs.old.held) × (vec_capacity gone.new ≡ vec_capacity gone.old) }
 {
     waiting.clear();
     gone.clear();

@@ -1,9 +1,9 @@
-use Rattle.std.proofs.Common.{◌+◌, ℕ, Option, ◌∙◌, sym, ap, subst, arith}
+use Rattle.std.proofs.Common.{◌+◌, ℕ, Option, ◌∙◌, ap, subst}
 use Rattle.cq_disk.specs.declared.name.Name.{Name}
 use Rattle.cq_disk.specs.File.{File}
-use Rattle.cq_disk.specs.Call.{BeforeFuse}
+use Rattle.cq_disk.specs.RunLemmas.{ran_next}
 use Rattle.cq_disk.specs.Moments.{quiet_then}
-use Rattle.cq_index.specs.Segments.{gate_len}
+use Rattle.cq_small.specs.Store.{len_of as store_len}
 use Rattle.cq_held.specs.Held.{as_read, contents_of}
 use Rattle.cq_back.specs.Folder.{index_file, file_bytes}
 use Rattle.cq_back.specs.Read.{AreTaken, AreWithin, IsRead, BreaksFirst}
@@ -24,15 +24,8 @@ returns-in-Err-clause-any_moment g c = λ told.
     let i = c.loop-at in
     quiet_then d.moment d.left d.files (g.met.D.Disk.now_only told) c.args.disk.now i.disk c.read_next.new.disk (i.invariant.run told) (i.invariant.files told) (c.in-Err.ensures.any_moment told)
 
-pub returns-in-Err-clause-strike : goal.returns-in-Err-clause-strike
-returns-in-Err-clause-strike g c =
-    let d = g.D.Disk in
-    let i = c.loop-at in
-    let s = c.in-Err.ensures.strike in
-    record {
-      later = omega (arith, s.later, i.invariant.struck);
-      failed = λ is before. let rose = s.failed (err_of _ c.in-Err.error is) (subst (λ (f : Option ℕ). BeforeFuse f (d.moment c.read_next.new.disk)) (sym i.invariant.plan.0) before) in omega (arith, rose, i.invariant.struck);
-    }
+pub returns-in-Err-clause-ran : goal.returns-in-Err-clause-ran
+returns-in-Err-clause-ran g c = ran_next g.D.Disk c.args.disk.now c.loop-at.disk c.read_next.new.disk _ _ _ (err_of _ c.in-Err.error) c.loop-at.invariant.ran c.in-Err.ensures.ran
 
 pub loop-at-preserved : goal.loop-at-preserved
 loop-at-preserved g c =
@@ -43,15 +36,12 @@ loop-at-preserved g c =
     record {
       ids = e.ids;
       taken = e.taken i.invariant.taken;
-      within = subst (λ (len : ℕ). AreWithin len i.taken.held.items → AreWithin len new.taken.held.items) (ap gate_len i.invariant.small) e.within i.invariant.within;
+      within = subst (λ (len : ℕ). AreWithin len i.taken.held.items → AreWithin len new.taken.held.items) (ap store_len i.invariant.small) e.within i.invariant.within;
       read = λ told. subst (λ (fs : Name → Option File). IsRead (contents_of (as_read fs)) (file_bytes (fs index_file)) i.at i.taken.held.items i.taken.lines → IsRead (contents_of (as_read fs)) (file_bytes (fs index_file)) (i.at + 1) new.taken.held.items new.taken.lines)
           (same_files (d.files c.args.disk.now) (d.files i.disk) (i.invariant.files told)) (e.read told) (i.invariant.read told);
       segment = e.same ∙ i.invariant.segment;
       small = e.same_small ∙ i.invariant.small;
       files = λ told n. e.files told n ∙ i.invariant.files told n;
       run = λ told. quiet_then d.moment d.left d.files (g.met.D.Disk.now_only told) c.args.disk.now i.disk new.disk (i.invariant.run told) (i.invariant.files told) (e.any_moment told);
-      moment = omega (arith, e.later, i.invariant.moment);
-      faults = omega (arith, e.cause.later, i.invariant.faults);
-      struck = omega (arith, e.strike.later, i.invariant.struck);
-      plan = (e.plan.fuse ∙ i.invariant.plan.0, e.plan.planned ∙ i.invariant.plan.1);
+      ran = ran_next d c.args.disk.now i.disk new.disk _ _ ⊥ (λ no. absurd no) i.invariant.ran e.ran;
     }

@@ -4,45 +4,83 @@ use Rattle.cq_index.specs.Segments.{count_of}
 use Rattle.cq_held.specs.Steady.{SoundBy}
 use Rattle.cq_back.specs.Folder.{IsImageOrWithout}
 use Rattle.cq_held.specs.Held.{as_read}
-use Rattle.cq_back.proofs.Opening.{if_ok, if_err, damaged_to}
+use Rattle.cq_back.proofs.Opening.{at_each, at_error, of_ok, of_err, damaged_to}
+use Rattle.cq_disk.specs.declared.name.Name.{Name}
+use Rattle.cq_held.specs.Folder.{IsSettled}
 use Rattle.cq_back.proofs.Ids.{lines_taken, lines_short}
 use Rattle.cq_back.proofs.Refused.{not_sound}
 use Rattle.cq_back.proofs.Stray.{now_holds, bare_segment, bare_store, left_sound}
 use Rattle.cq_back.proofs.open.open_folder.Goals as goal
 
-pub returns-clause-now : goal.returns-clause-now
-returns-clause-now g c = now_holds _ _ c.open_queue.result (g.D.Disk.files c.open_queue.new.disk) c.open_queue.ensures.now c.open_queue.ensures.settled
-
-pub returns-clause-meanwhile : goal.returns-clause-meanwhile
-returns-clause-meanwhile g c = λ told lines holds.
-    let d = g.D.Disk in
-    let old = d.files c.args.disk.now in
-    weaken d.moment d.left d.files (g.met.D.Disk.now_only told) c.args.disk.now c.open_queue.new.disk (IsImageOrWithout old) (λ image. SoundBy image lines) (left_sound old lines holds) (c.open_queue.ensures.any_moment told)
-
-pub returns-clause-refuses : goal.returns-clause-refuses
-returns-clause-refuses g c = if_err c.open_queue.result _ _
-    (λ error broken. damaged_to error _ _ (λ name place found b told lines. not_sound (as_read (g.D.Disk.files c.args.disk.now)) lines name place found (b told)) broken) c.open_queue.ensures.damaged
+pub returns-clause-messages : goal.returns-clause-messages
+returns-clause-messages g c =
+    let r = c.open_queue.result in
+    let e = c.open_queue.ensures in
+    let holds = now_holds _ _ r (g.D.Disk.files c.open_queue.new.disk) e.now e.settled in
+    at_each r _ (λ found is. record {
+      ok = of_ok _ r found is e.ok;
+      now = of_ok _ r found is holds;
+      held = of_ok _ r found is e.held;
+      held_now = of_ok _ r found is e.held_now;
+    })
 
 pub returns-clause-lines : goal.returns-clause-lines
-returns-clause-lines g c = if_ok c.open_queue.result _ _ (λ found taken. lines_taken (count_of found.segment) found.held.items found.lines taken) c.open_queue.ensures.taken
+returns-clause-lines g c =
+    let r = c.open_queue.result in
+    at_each r _ (λ found is.
+    let taken = of_ok _ r found is c.open_queue.ensures.taken in
+    let most = found.segment.few in
+    record {
+      lines = lines_taken (count_of found.segment) found.held.items found.lines taken;
+      one_queue = taken.queues;
+      matched = taken.matched;
+      short = lines_short found.held.items found.lines taken.matched;
+      within = of_ok _ r found is c.open_queue.ensures.within;
+      few_held = omega (arith, taken.few, most);
+      few = most;
+    })
 
-pub returns-clause-one_queue : goal.returns-clause-one_queue
-returns-clause-one_queue g c = if_ok c.open_queue.result _ _ (λ found taken. taken.queues) c.open_queue.ensures.taken
+pub returns-clause-files : goal.returns-clause-files
+returns-clause-files g c =
+    let d = g.D.Disk in
+    let r = c.open_queue.result in
+    let e = c.open_queue.ensures in
+    let files = d.files c.open_queue.new.disk in
+    let index = bare_segment d.tells r files e.settled e.segment in
+    let small = bare_store d.tells r files e.settled e.small in
+    at_each r _ (λ found is. record {
+      settled = of_ok (λ _. d.tells → (n : Name) → IsSettled (files n)) r found is e.settled;
+      name = of_ok _ r found is e.name;
+      small_name = of_ok _ r found is e.small_name;
+      count = of_ok _ r found is e.count;
+      segment = of_ok _ r found is e.segment;
+      small = of_ok _ r found is e.small;
+      bare_index = of_ok _ r found is index;
+      bare_small = of_ok _ r found is small;
+    })
 
-pub returns-clause-matched : goal.returns-clause-matched
-returns-clause-matched g c = if_ok c.open_queue.result _ _ (λ found taken. taken.matched) c.open_queue.ensures.taken
+pub returns-clause-refuses : goal.returns-clause-refuses
+returns-clause-refuses g c =
+    let d = g.D.Disk in
+    let r = c.open_queue.result in
+    let e = c.open_queue.ensures in
+    at_error r _ (λ error is.
+    let damaged = of_err _ r error is e.damaged in
+    record {
+      damaged = damaged;
+      cause = of_err _ r error is e.cause;
+      refuses = damaged_to error _ _ (λ name place found b told lines. not_sound (as_read (d.files c.args.disk.now)) lines name place found (b told)) damaged;
+      reads = of_err _ r error is e.reads;
+      only_reads = of_err _ r error is e.only_reads;
+      unsound = of_err _ r error is e.unsound;
+    })
 
-pub returns-clause-short : goal.returns-clause-short
-returns-clause-short g c = if_ok c.open_queue.result _ _ (λ found taken. lines_short found.held.items found.lines taken.matched) c.open_queue.ensures.taken
-
-pub returns-clause-few : goal.returns-clause-few
-returns-clause-few g c = if_ok c.open_queue.result _ _ (λ found taken. found.segment.few) c.open_queue.ensures.taken
-
-pub returns-clause-bare_index : goal.returns-clause-bare_index
-returns-clause-bare_index g c = bare_segment g.D.Disk.tells c.open_queue.result (g.D.Disk.files c.open_queue.new.disk) c.open_queue.ensures.settled c.open_queue.ensures.segment
-
-pub returns-clause-bare_small : goal.returns-clause-bare_small
-returns-clause-bare_small g c = bare_store g.D.Disk.tells c.open_queue.result (g.D.Disk.files c.open_queue.new.disk) c.open_queue.ensures.settled c.open_queue.ensures.small
-
-pub returns-clause-few_held : goal.returns-clause-few_held
-returns-clause-few_held g c = if_ok c.open_queue.result _ _ (λ found taken. let most = found.segment.few in omega (arith, taken.few, most)) c.open_queue.ensures.taken
+pub returns-clause-keeps : goal.returns-clause-keeps
+returns-clause-keeps g c =
+    let d = g.D.Disk in
+    let old = d.files c.args.disk.now in
+    record {
+      no_new = c.open_queue.ensures.no_new;
+      any_moment = c.open_queue.ensures.any_moment;
+      meanwhile = λ told lines holds. weaken d.moment d.left d.files (g.met.D.Disk.now_only told) c.args.disk.now c.open_queue.new.disk (IsImageOrWithout old) (λ image. SoundBy image lines) (left_sound old lines holds) (c.open_queue.ensures.any_moment told);
+    }

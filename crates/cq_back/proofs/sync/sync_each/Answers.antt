@@ -1,6 +1,7 @@
-use Rattle.std.proofs.Common.{rules, arith, ◌∙◌}
+use Rattle.std.proofs.Common.{arith}
 use Rattle.cq_disk.specs.Files.{IsImage}
 use Rattle.cq_disk.specs.Moments.{started}
+use Rattle.cq_disk.specs.RunLemmas.{ran_none, ran_next, ran_call}
 use Rattle.cq_back.proofs.Synced.{syncs_none, syncs_more, still_there, run_more, none_new, none_within}
 use Rattle.cq_back.proofs.sync.sync_each.Goals as goal
 
@@ -11,10 +12,7 @@ loop-name-init g c =
     record {
       syncs = λ told. syncs_none (d.files old) c.args.names.now;
       run = λ told. started d.moment d.left d.files (g.met.D.Disk.now_only told) old (IsImage (d.files old)) (λ image is. is);
-      moment = omega arith;
-      faults = omega arith;
-      struck = omega arith;
-      plan = search rules;
+      ran = ran_none d old;
     }
 
 pub sync-requires : goal.sync-requires
@@ -49,10 +47,7 @@ loop-name-preserved g c =
       run = λ told. run_more d.moment d.left d.files (g.met.D.Disk.now_only told) told c.args.disk.now i.disk c.sync.new.self all i.name-index _ c.sync.result (g.met.D.Disk.reads_left told i.disk)
           (still_there (d.files c.args.disk.now) (d.files i.disk) all i.name-index i.name-index _ c.loop-name-test.true (c.requires told) (i.invariant.syncs told))
           c.sync.ensures.ok c.sync.ensures.fault c.sync.ensures.time (i.invariant.syncs told) (i.invariant.run told);
-      moment = omega (arith, c.sync.ensures.time.later, i.invariant.moment);
-      faults = omega (arith, c.sync.ensures.cause.later, i.invariant.faults);
-      struck = omega (arith, c.sync.ensures.strike.later, i.invariant.struck);
-      plan = (c.sync.ensures.plan.fuse ∙ i.invariant.plan.0, c.sync.ensures.plan.planned ∙ i.invariant.plan.1);
+      ran = ran_next d c.args.disk.now i.disk c.sync.new.self _ _ ⊥ (λ no. absurd no) i.invariant.ran (ran_call d i.disk c.sync.new.self c.sync.result _ c.sync.ensures.time c.sync.ensures.called);
     }
 
 pub returns-clause-settled : goal.returns-clause-settled

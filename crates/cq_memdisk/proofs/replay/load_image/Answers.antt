@@ -26,7 +26,7 @@ returns-in_ok-image-in-Some-clause-kept c =
     let numbered : IsNumbered c.args.n c.args.place f v.items = c.in_ok-image-in-Some.ensures in
     let x : Note = record { from = c.args.now; name = c.args.name; change = Load v } in
     let e = c.perform.ensures in
-    on_ok_too c.perform.result (stays_kept c.perform.result c.args.notes.now.items c.perform.new.notes.items (bytes_of c.args.files.now) (bytes_of c.perform.new.files) x c.args.now c.requires.kept (omega arith) tt (numbered_image c.args.n c.args.place f v.items (c.requires.sound f is) numbered).bytes e.ok e.fits e.noted e.err e.not_noted)
+    on_ok_too c.perform.result (stays_kept c.perform.result c.args.notes.now.items c.perform.new.notes.items (bytes_of c.args.files.now) (bytes_of c.perform.new.files) x c.args.now c.requires.kept (omega arith) tt (numbered_image c.args.n c.args.place f v.items (c.requires.sound f is) numbered).bytes e.ok e.fits e.in_range e.noted e.err e.not_noted)
 
 pub returns-in_ok-image-in-Some-clause-image : goal.returns-in_ok-image-in-Some-clause-image
 returns-in_ok-image-in-Some-clause-image c =

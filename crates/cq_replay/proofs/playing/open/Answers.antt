@@ -1,6 +1,11 @@
-use Rattle.std.proofs.Common.{refl}
+use Rattle.std.proofs.Common.{◌≡◌, refl}
+use Rattle.cq_disk.specs.RunLemmas.{unfused_on}
+use Rattle.cq_disk.specs.declared.disk.OpenError.TheVariants as error
+use Rattle.cq_replay.specs.declared.playing.Ending.TheVariants as ending
+use Rattle.cq_replay.specs.Played.{HasFailed}
+use Rattle.cq_replay.proofs.Endings.{on_none, on_less, memory_ends}
 use Rattle.cq_held.proofs.Images.{reads_image}
-use Rattle.cq_replay.proofs.Ready.{room_after, not_broken, ended_unopened, not_in_session, agrees_same, agrees_then, unfused}
+use Rattle.cq_replay.proofs.Ready.{room_after, not_broken, unopened_fault, unopened_was, not_in_session, agrees_same, agrees_then}
 use Rattle.cq_replay.proofs.playing.open.Goals as goal
 
 pub returns-in_default-clause-agrees : goal.returns-in_default-clause-agrees
@@ -37,11 +42,22 @@ returns-in-Err-clause-agrees g c = λ past agrees image is.
     let back = c.in-Err.field-0.disk in
     agrees_then (d.files start) c.requires.ready.settled past agrees d.moment d.left start back (d.files back) (λ image later is. g.met.C.Disk.now_each told back (d.moment start) image later is) (λ lines still. (c.in-Err.ensures.meanwhile lines told still).1) image is
 
-pub returns-in-Err-clause-failed : goal.returns-in-Err-clause-failed
-returns-in-Err-clause-failed g c =
+pub returns-in-Ok-open-clause-ran : goal.returns-in-Ok-open-clause-ran
+returns-in-Ok-open-clause-ran g c =
+    let d = g.C.Disk in
+    unfused_on d c.args.scratch c.in-Ok-open.node.store.disk ⊥ c.requires.ready.no_fuse c.in-Ok-open.ensures.ran
+
+pub returns-in_default-clause-ends : goal.returns-in_default-clause-ends
+returns-in_default-clause-ends g c = memory_ends g.C.Disk c.args.scratch c.args.scratch ending.Memory refl (on_none g.C.Disk c.args.scratch)
+
+pub returns-in-Err-clause-ends : goal.returns-in-Err-clause-ends
+returns-in-Err-clause-ends g c =
     let d = g.C.Disk in
     let start = c.args.scratch in
     let back = c.in-Err.field-0.disk in
     let whole = not_broken (d.files start) (d.fuse start) c.args.rest.items c.requires.ready d.tells g.met.C.Crashable.told c.in-Err.field-0.error c.in-Err.ensures.refuses in
-    ended_unopened c.in-Err.field-0.error c.unopened.result (d.faults start) (d.faults back) (d.struck start) (d.struck back) whole c.unopened.ensures.fault c.unopened.ensures.memory
-    (λ is. let rose = c.in-Err.ensures.fault is in (rose.0, rose.1 (unfused (d.fuse start) (d.moment back) c.requires.ready.no_fuse)))
+    record {
+      fault = unopened_fault c.in-Err.field-0.error c.unopened.result whole c.unopened.ensures.fault c.unopened.ensures.memory;
+      ran = on_less d start back (c.in-Err.field-0.error ≡ error.Fault) (HasFailed c.unopened.result) (unopened_was c.in-Err.field-0.error c.unopened.result whole c.unopened.ensures.fault c.unopened.ensures.memory)
+          (unfused_on d start back (c.in-Err.field-0.error ≡ error.Fault) c.requires.ready.no_fuse c.in-Err.ensures.ran);
+    }

@@ -21,16 +21,14 @@ returns-clause-seen c =
     let ends = c.args.self.now.ends.items in
     set_shows seen_at (λ a b. MatchBool c.dropped.result (b ≡ a ++ c.args.delivery ∷ []) (b ≡ a)) ends c.args.client c.index_mut.result.now c.dropped.new.self [] (has_end ends c.args.client c.requires.client) c.index_mut.ensures.value c.dropped.ensures.seen
 
-pub returns-clause-look : goal.returns-clause-look
-returns-clause-look c =
+pub returns-clause-looks : goal.returns-clause-looks
+returns-clause-looks c =
     let ends = c.args.self.now.ends.items in
     let i : ℕ = c.args.client in
     let near = has_end ends i c.requires.client in
     let looks = set_shows end_looks (IsLook c.dropped.result c.args.delivery (names c.index_mut.result.now)) ends i c.index_mut.result.now c.dropped.new.self [] near c.index_mut.ensures.value c.dropped.ensures.look in
-    set_shows names (λ a _. IsLook c.dropped.result c.args.delivery a (get_or (map end_looks ends) i []) (get_or (map end_looks (set ends i c.dropped.new.self)) i [])) ends i c.index_mut.result.now c.dropped.new.self [] near c.index_mut.ensures.value looks
+    let look = set_shows names (λ a _. IsLook c.dropped.result c.args.delivery a (get_or (map end_looks ends) i []) (get_or (map end_looks (set ends i c.dropped.new.self)) i [])) ends i c.index_mut.result.now c.dropped.new.self [] near c.index_mut.ensures.value looks in
+    record { look = look; others = λ k ne. set_keeps end_looks ends i k c.dropped.new.self [] ne }
 
 pub returns-clause-others : goal.returns-clause-others
 returns-clause-others c k ne = set_keeps seen_at c.args.self.now.ends.items c.args.client k c.dropped.new.self [] ne
-
-pub returns-clause-other_looks : goal.returns-clause-other_looks
-returns-clause-other_looks c k ne = set_keeps end_looks c.args.self.now.ends.items c.args.client k c.dropped.new.self [] ne

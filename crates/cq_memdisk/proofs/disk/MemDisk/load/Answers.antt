@@ -17,7 +17,7 @@ invariant_of-self c =
     let x : Note = record { from = d.moment; name = c.args.name; change = Load v } in
     let small : HasBytes (Load v) = search rules in
     let was : IsKept d.notes.items (bytes_of d.files) d.moment = record { kept = d.kept; past = d.past; history = d.history } in
-    let is = stays_kept c.perform.result d.notes.items c.perform.new.notes.items (bytes_of d.files) (bytes_of c.perform.new.files) x d.moment was (omega arith) tt small e.ok e.fits e.noted e.err e.not_noted in
+    let is = stays_kept c.perform.result d.notes.items c.perform.new.notes.items (bytes_of d.files) (bytes_of c.perform.new.files) x d.moment was (omega arith) tt small e.ok e.fits e.in_range e.noted e.err e.not_noted in
     record { kept = is.kept; past = is.past; begun = d.begun; history = is.history; strikes = d.strikes; counts = d.counts }
 
 pub returns-clause-left : goal.returns-clause-left

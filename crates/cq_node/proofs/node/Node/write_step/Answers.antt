@@ -1,36 +1,40 @@
-use Rattle.std.proofs.Common.{◌≡◌, ℕ, ◌≤◌, ◌<◌, ◌+◌, ◌-◌, List, length, subst, refl, sym, ap, ◌∙◌, arith}
+use Rattle.std.proofs.Common.{◌≡◌, false, Ok, IsErrOf, ℕ, ◌≤◌, ◌<◌, ◌+◌, ◌-◌, List, length, subst, refl, sym, ap, ◌∙◌, arith}
 use Rattle.std.specs.Prelude.{All}
-use Rattle.std.specs.List.{AllByRecursion}
+use Rattle.std.specs.List.{AllByRecursion, AllZip}
 use Rattle.std.proofs.Math.Logic.{∥∥₁_elim, ∥∥₁_map}
 use Rattle.std.proofs.lemmas.Bool.{false≢true}
+use Rattle.cq_disk.specs.Run.{Ran}
 use Rattle.cq_entry.specs.Entry.{IsEntry}
 use Rattle.cq_small.specs.Record.{HasRecord, StandsIn}
-use Rattle.cq_small.specs.Store.{small_name}
+use Rattle.cq_small.specs.Store.{small_name, len_of as small_len, end_of, gate_of as small_gate}
+use Rattle.cq_index.specs.Segments.{gate_of}
 use Rattle.cq_index.specs.Places.{index_name}
 use Rattle.cq_inbox.specs.Requests.{publishes}
 use Rattle.cq_journal.specs.Asks.{asks, replies}
 use Rattle.cq_journal.specs.Confirms.{confirmed}
 use Rattle.cq_journal.specs.History.{line}
 use Rattle.cq_journal.specs.Legal.{delivered}
-use Rattle.cq_held.specs.Held.{as_read, Zip, Held}
+use Rattle.cq_held.specs.Held.{as_read, Held}
 use Rattle.cq_held.specs.Steady.{Steady, Steady-prop}
 use Rattle.cq_held.specs.Standing.{Standing, joined, confirm_all}
-use Rattle.cq_core.specs.declared.queue.Spot.{Spot}
+use Rattle.cq_core.specs.declared.queue.RecordPlace.{RecordPlace}
 use Rattle.cq_core.specs.Answers.{AddsSince}
 use Rattle.cq_core.specs.Batch.{IsBatch}
-use Rattle.cq_core.specs.Core.{undecided, IsQuiet, IsWhole, IsWritable}
-use Rattle.cq_core.specs.Stored.{IsSpotOf, stored, unstored, stored_count, records_of, spots_of, passes, content_in}
+use Rattle.cq_core.specs.Core.{undecided, AddsConfirmsAlone, HasReplies, IsWritable}
+use Rattle.cq_core.specs.Stored.{IsPlaceOf, stored, unstored, stored_count, records_of, spots_of, passes, content_in}
 use Rattle.cq_core.proofs.Counts.{published-asked}
 use Rattle.cq_core.proofs.Laid.{length-spots, count-entries}
 use Rattle.cq_core.proofs.Passing.{passed_stand}
 use Rattle.cq_core.proofs.Stands.{spots-match}
 use Rattle.cq_node.specs.Agreeing.{stored_lines, WillJoin}
-use Rattle.cq_node.specs.Files.{small_end, small_length, small_calls, index_calls, HasFew}
+use Rattle.cq_node.specs.Files.{append_calls, HasFew}
+use Rattle.cq_node.specs.declared.outcome.NodeError.TheVariants.{Fault, Memory, Stopped}
+use Rattle.cq_node.specs.declared.outcome.Step.TheVariants.{Did}
 use Rattle.cq_node.proofs.Agreeing.{laws}
 use Rattle.cq_node.proofs.Few.{has_room}
-use Rattle.cq_node.proofs.Answered.{few_upto, all_drop, confirmed_all, placed_all, within_all, places_now, calls_at}
+use Rattle.cq_node.proofs.Answered.{few_upto, all_drop, confirmed_all, placed_all, within_all, places_now}
 use Rattle.cq_node.proofs.Steadying.{all_lines, all_safe, come, now_lines, stands_held}
-use Rattle.cq_node.proofs.Writes.{no_error, an_error, since_earlier, batch_long}
+use Rattle.cq_node.proofs.Writes.{no_error, not_err, an_error, no_fault, since_earlier, batch_long}
 use Rattle.cq_node.proofs.node.Node.write_step.Goals as goal
 
 pub batch_of-requires-clause-few : goal.batch_of-requires-clause-few
@@ -39,7 +43,7 @@ batch_of-requires-clause-few g c = omega (arith, c.undecided-2.ensures.count, c.
 pub batch_of-requires-clause-writable : goal.batch_of-requires-clause-writable
 batch_of-requires-clause-writable g c =
     let journal = c.args.self.now.core.entries in
-    subst (λ ms. AllByRecursion IsWritable ms) (sym c.undecided-2.ensures.same) (all_drop IsWritable (stored_count journal) (line journal 0) c.journal.ensures.writable)
+    subst (λ ms. AllByRecursion IsWritable ms) (sym c.undecided-2.ensures.same) (all_drop IsWritable (stored_count journal) (line journal 0) c.undecided.ensures.tells.writable)
 
 pub commit-written-requires-clause-records : goal.commit-written-requires-clause-records
 commit-written-requires-clause-records g c =
@@ -79,7 +83,7 @@ commit-written-requires-clause-few g c =
 pub returns-then-count-eq0-clause-idle : goal.returns-then-count-eq0-clause-idle
 returns-then-count-eq0-clause-idle g c = λ idle.
     let none : undecided c.args.self.now.core.entries ≡ 0 = omega (arith, c.undecided.ensures.count, c.len-count.ensures, c.if-count-eq0.true) in
-    (c.journal.ensures.confirmed none, refl)
+    (c.undecided.ensures.tells.all_confirmed none, refl)
 
 pub returns-then-count-eq0-clause-held : goal.returns-then-count-eq0-clause-held
 returns-then-count-eq0-clause-held g c = λ idle told.
@@ -87,15 +91,15 @@ returns-then-count-eq0-clause-held g c = λ idle told.
     let a = c.args.self.now in
     let journal = a.core.entries in
     let none : undecided journal ≡ 0 = omega (arith, c.undecided.ensures.count, c.len-count.ensures, c.if-count-eq0.true) in
-    subst (λ lines. ∥ Held (as_read (d.files a.store.disk)) lines ∥₁) (all_lines journal c.journal.ensures.alone (c.journal.ensures.stored none))
+    subst (λ lines. ∥ Held (as_read (d.files a.store.disk)) lines ∥₁) (all_lines journal c.undecided.ensures.tells.alone (c.undecided.ensures.tells.all_stored none))
     (∥∥₁_map (a.standing c.if-self.false told) (stands_held d.moment d.left d.files (g.met.D.Disk.now_only told) (g.met.D.Disk.now_each told) (g.met.D.Disk.reads_left told) a.store.disk journal (stored_lines journal)))
 
 pub confirm_all-requires-clause-places : goal.confirm_all-requires-clause-places
 confirm_all-requires-clause-places g c =
     let is = c.in-Ok.ensures in
     let ms = c.undecided-2.result.now.items in
-    subst (λ (l : List Spot). Zip IsSpotOf l (unstored c.reserve.new.self.entries)) (sym (c.deref-2.ensures.value ∙ is.spots))
-    (subst (λ l. Zip IsSpotOf (spots_of c.base-base.result ms) l) (c.undecided-2.ensures.same ∙ ap unstored (sym c.reserve.ensures.entries)) (spots-match c.base-base.result ms))
+    subst (λ (l : List RecordPlace). AllZip IsPlaceOf l (unstored c.reserve.new.self.entries)) (sym (c.deref-2.ensures.value ∙ is.spots))
+    (subst (λ l. AllZip IsPlaceOf (spots_of c.base-base.result ms) l) (c.undecided-2.ensures.same ∙ ap unstored (sym c.reserve.ensures.entries)) (spots-match c.base-base.result ms))
 
 pub confirm_all-requires-clause-reserved : goal.confirm_all-requires-clause-reserved
 confirm_all-requires-clause-reserved g c =
@@ -132,11 +136,11 @@ invariant_of-self-3-clause-within g c = λ running.
     let all : stored now ≡ line journal 0 = c.confirm_all.ensures.all ∙ ap (λ l. line l 0) c.reserve.ensures.entries in
     let some : 0 < length (unstored journal) = omega (arith, ap length c.undecided-2.ensures.same, c.undecided.ensures.count, c.undecided-2.ensures.count, c.len-count.ensures, c.if-count-eq0.false) in
     let longer = no_error c.commit-written.result (sym c.is_err-2.ensures.value ∙ c.if-is_err-3.false) c.commit-written.ensures.longer in
-    let end : small_end c.reserve-else-is_err.new.self.small ≡ base = ap small_end same.2 ∙ sym c.base-base.ensures.end in
+    let end : end_of c.reserve-else-is_err.new.self.small ≡ base = ap end_of same.2 ∙ sym c.base-base.ensures.end in
     let records : length c.in-Ok.batch.records ≡ length (records_of (unstored journal)) = ap length is.records in
-    within_all (small_length a.store.small) (small_length c.commit-written.new.self.small) base a.core.places c.confirm_all.new.self.places (delivered journal 0 - stored_count journal) (unstored journal)
+    within_all (small_len a.store.small) (small_len c.commit-written.new.self.small) base a.core.places c.confirm_all.new.self.places (delivered journal 0 - stored_count journal) (unstored journal)
     (places_now a.core.places c.reserve.new.self.places c.confirm_all.new.self.places c.deref-2.result.now (spots_of base (unstored journal)) journal c.reserve.new.self.entries c.confirm_all.ensures.places c.reserve.ensures.places c.reserve.ensures.entries (c.deref-2.ensures.value ∙ is.spots))
-    (omega (arith, longer.0, ap small_length same.2)) (omega (arith, longer.1, end, records)) (a.within c.if-self.false)
+    (omega (arith, longer.0, ap small_len same.2)) (omega (arith, longer.1, end, records)) (a.within c.if-self.false)
 
 pub invariant_of-self-3-clause-placed : goal.invariant_of-self-3-clause-placed
 invariant_of-self-3-clause-placed g c = λ running told.
@@ -152,7 +156,7 @@ invariant_of-self-3-clause-placed g c = λ running told.
     let some : 0 < length (unstored journal) = omega (arith, ap length c.undecided-2.ensures.same, c.undecided.ensures.count, c.undecided-2.ensures.count, c.len-count.ensures, c.if-count-eq0.false) in
     let content = content_in (d.files a.store.disk (small_name 0 0)) in
     let content' = content_in (d.files c.commit-written.new.self.disk (small_name 0 0)) in
-    let end : small_end c.reserve-else-is_err.new.self.small ≡ base = ap small_end same.2 ∙ sym c.base-base.ensures.end in
+    let end : end_of c.reserve-else-is_err.new.self.small ≡ base = ap end_of same.2 ∙ sym c.base-base.ensures.end in
     let kept = subst (λ disk. (place : ℕ) (body : List ℕ) → StandsIn (content_in (d.files disk (small_name 0 0))) place body → StandsIn content' place body) same.0 (no_error c.commit-written.result (sym c.is_err-2.ensures.value ∙ c.if-is_err-3.false) c.commit-written.ensures.kept told) in
     let added = subst (λ b. (offset : ℕ) (body : List ℕ) → HasRecord c.in-Ok.batch.records offset body → StandsIn content' (b + offset) body) end (no_error c.commit-written.result (sym c.is_err-2.ensures.value ∙ c.if-is_err-3.false) c.commit-written.ensures.added told) in
     placed_all content content' base a.core.places c.confirm_all.new.self.places journal now kept (λ offset body has. added offset body (subst (λ (l : List ℕ). HasRecord l offset body) (sym is.records) has))
@@ -162,7 +166,7 @@ invariant_of-self-3-clause-placed g c = λ running told.
 pub invariant_of-self-3-clause-whole : goal.invariant_of-self-3-clause-whole
 invariant_of-self-3-clause-whole g c = λ told.
     let whole = c.args.self.now.whole told in
-    let kept : IsWhole c.reserve.new.self = ap (λ l. replies l 0) c.reserve.ensures.entries ∙ whole ∙ sym c.reserve.ensures.told in
+    let kept : HasReplies c.reserve.new.self = ap (λ l. replies l 0) c.reserve.ensures.entries ∙ whole ∙ sym c.reserve.ensures.told in
     c.confirm_all.ensures.whole kept
 
 pub invariant_of-self-3-clause-few : goal.invariant_of-self-3-clause-few
@@ -207,10 +211,9 @@ returns-clause-calls g c = λ done.
     let d = g.D.Disk in
     let same = c.reserve-else-is_err.ensures.same in
     no_error c.commit-written.result (sym c.is_err-2.ensures.value ∙ c.if-is_err-3.false) c.commit-written.ensures.calls
-    ∙ ap (λ disk. d.moment disk + (small_calls c.reserve-else-is_err.new.self.small + index_calls c.reserve-else-is_err.new.self.made c.reserve-else-is_err.new.self.index)) same.0
-    ∙ ap (λ small. d.moment c.args.self.now.store.disk + (small_calls small + index_calls c.reserve-else-is_err.new.self.made c.reserve-else-is_err.new.self.index)) same.2
-    ∙ ap (λ made. d.moment c.args.self.now.store.disk + (small_calls c.args.self.now.store.small + index_calls made c.reserve-else-is_err.new.self.index)) same.3
-    ∙ ap (λ n. d.moment c.args.self.now.store.disk + (small_calls c.args.self.now.store.small + calls_at c.args.self.now.store.made n)) same.5
+    ∙ ap (λ disk. d.moment disk + (append_calls (small_gate c.reserve-else-is_err.new.self.small) + append_calls (gate_of c.reserve-else-is_err.new.self.index))) same.0
+    ∙ ap (λ small. d.moment c.args.self.now.store.disk + (append_calls (small_gate small) + append_calls (gate_of c.reserve-else-is_err.new.self.index))) same.2
+    ∙ ap (λ gate. d.moment c.args.self.now.store.disk + (append_calls (small_gate c.args.self.now.store.small) + append_calls gate)) same.3
 
 -- the commit has failed
 pub invariant_of-self-then-is_err-3-clause-few : goal.invariant_of-self-then-is_err-3-clause-few
@@ -261,10 +264,10 @@ invariant_of-self-then-is_err-3-clause-steady g c = λ told.
     let fit : a.opened + confirmed journal + length c.deref.result.now ≤ 4096 = omega (arith, long, ap length c.undecided-2.ensures.same, c.undecided-2.ensures.count, a.few, published-asked journal) in
     let room = has_room (d.files disk) (index_name 0 0) (a.opened + confirmed journal) (length c.deref.result.now) (g.met.D.Disk.reads_left told disk)
     (subst (λ k. HasFew (d.files k (index_name 0 0)) (a.opened + confirmed journal)) (sym same.0) (a.short c.if-self.false told)) fit in
-    let will = subst (λ b. WillJoin (d.files disk) b c.in-Ok.batch.records journal lines c.deref.result.now (unstored journal)) (c.base-base.ensures.end ∙ ap small_end (sym same.2))
-    (come journal (d.files disk) base c.in-Ok.batch c.deref.result.now (c.reserve-else-is_err.new.self.alone told) room c.journal.ensures.unsettled is c.deref.ensures.value) in
+    let will = subst (λ b. WillJoin (d.files disk) b c.in-Ok.batch.records journal lines c.deref.result.now (unstored journal)) (c.base-base.ensures.end ∙ ap end_of (sym same.2))
+    (come journal (d.files disk) base c.in-Ok.batch c.deref.result.now (c.reserve-else-is_err.new.self.alone told) room c.undecided.ensures.tells.unsettled is c.deref.ensures.value) in
     subst (Steady (d.left new) (d.moment new)) (sym c.reserve.ensures.entries) (∥∥₁_elim stands (Steady-prop (d.left new) (d.moment new) journal) (λ s.
-    c.commit-written.ensures.steady told journal lines (unstored journal) c.journal.ensures.legal s will (subst (λ k. Steady (d.left k) (d.moment k) journal) (sym same.0) (a.steady told))))
+    c.commit-written.ensures.steady told journal lines (unstored journal) c.undecided.ensures.tells.legal s will (subst (λ k. Steady (d.left k) (d.moment k) journal) (sym same.0) (a.steady told))))
 
 pub invariant_of-self-3-clause-standing : goal.invariant_of-self-3-clause-standing
 invariant_of-self-3-clause-standing g c = λ running told.
@@ -285,14 +288,14 @@ invariant_of-self-3-clause-standing g c = λ running told.
     let fit : a.opened + confirmed journal + length c.deref.result.now ≤ 4096 = omega (arith, long, ap length c.undecided-2.ensures.same, c.undecided-2.ensures.count, a.few, published-asked journal) in
     let room = has_room (d.files disk) (index_name 0 0) (a.opened + confirmed journal) (length c.deref.result.now) (g.met.D.Disk.reads_left told disk)
     (subst (λ k. HasFew (d.files k (index_name 0 0)) (a.opened + confirmed journal)) (sym same.0) (a.short c.if-self.false told)) fit in
-    let will = subst (λ b. WillJoin (d.files disk) b c.in-Ok.batch.records journal lines c.deref.result.now (unstored journal)) (c.base-base.ensures.end ∙ ap small_end (sym same.2))
-    (come journal (d.files disk) base c.in-Ok.batch c.deref.result.now (c.reserve-else-is_err.new.self.alone told) room c.journal.ensures.unsettled is c.deref.ensures.value) in
+    let will = subst (λ b. WillJoin (d.files disk) b c.in-Ok.batch.records journal lines c.deref.result.now (unstored journal)) (c.base-base.ensures.end ∙ ap end_of (sym same.2))
+    (come journal (d.files disk) base c.in-Ok.batch c.deref.result.now (c.reserve-else-is_err.new.self.alone told) room c.undecided.ensures.tells.unsettled is c.deref.ensures.value) in
     let passed : now ≡ confirm_all c.moment-stamp.result (passes (confirmed journal) (unstored journal)) journal = c.confirm_all.ensures.exact ∙ ap (λ l. confirm_all c.moment-stamp.result (passes (confirmed l) (unstored l)) l) c.reserve.ensures.entries in
     let joins = no_error c.commit-written.result (sym c.is_err-2.ensures.value ∙ c.if-is_err-3.false) c.commit-written.ensures.stands in
-    subst (λ l. ∥ Standing (d.files c.commit-written.new.self.disk) now l ∥₁) (now_lines journal c.journal.ensures.alone now all)
+    subst (λ l. ∥ Standing (d.files c.commit-written.new.self.disk) now l ∥₁) (now_lines journal c.undecided.ensures.tells.alone now all)
     (subst (λ l. ∥ Standing (d.files c.commit-written.new.self.disk) l (joined 0 (unstored journal) lines) ∥₁) (sym passed)
-    (∥∥₁_map stands (λ s. passed_stand (d.files c.commit-written.new.self.disk) (joined 0 (unstored journal) lines) c.moment-stamp.result (passes (confirmed journal) (unstored journal)) journal (all_safe journal c.journal.ensures.alone)
-    (joins told journal lines (unstored journal) c.journal.ensures.legal will s))))
+    (∥∥₁_map stands (λ s. passed_stand (d.files c.commit-written.new.self.disk) (joined 0 (unstored journal) lines) c.moment-stamp.result (passes (confirmed journal) (unstored journal)) journal (all_safe journal c.undecided.ensures.tells.alone)
+    (joins told journal lines (unstored journal) c.undecided.ensures.tells.legal will s))))
 
 pub invariant_of-self-3-clause-steady : goal.invariant_of-self-3-clause-steady
 invariant_of-self-3-clause-steady g c = λ told.
@@ -313,8 +316,8 @@ invariant_of-self-3-clause-steady g c = λ told.
     let fit : a.opened + confirmed journal + length c.deref.result.now ≤ 4096 = omega (arith, long, ap length c.undecided-2.ensures.same, c.undecided-2.ensures.count, a.few, published-asked journal) in
     let room = has_room (d.files disk) (index_name 0 0) (a.opened + confirmed journal) (length c.deref.result.now) (g.met.D.Disk.reads_left told disk)
     (subst (λ k. HasFew (d.files k (index_name 0 0)) (a.opened + confirmed journal)) (sym same.0) (a.short c.if-self.false told)) fit in
-    let will = subst (λ b. WillJoin (d.files disk) b c.in-Ok.batch.records journal lines c.deref.result.now (unstored journal)) (c.base-base.ensures.end ∙ ap small_end (sym same.2))
-    (come journal (d.files disk) base c.in-Ok.batch c.deref.result.now (c.reserve-else-is_err.new.self.alone told) room c.journal.ensures.unsettled is c.deref.ensures.value) in
+    let will = subst (λ b. WillJoin (d.files disk) b c.in-Ok.batch.records journal lines c.deref.result.now (unstored journal)) (c.base-base.ensures.end ∙ ap end_of (sym same.2))
+    (come journal (d.files disk) base c.in-Ok.batch c.deref.result.now (c.reserve-else-is_err.new.self.alone told) room c.undecided.ensures.tells.unsettled is c.deref.ensures.value) in
     let new = c.commit-written.new.self.disk in
     let ps = passes (confirmed journal) (unstored journal) in
     let passed : now ≡ confirm_all (d.moment new) ps journal = c.confirm_all.ensures.exact ∙ ap (λ l. confirm_all c.moment-stamp.result (passes (confirmed l) (unstored l)) l) c.reserve.ensures.entries ∙ ap (λ stamp. confirm_all stamp ps journal) c.moment-stamp.ensures in
@@ -322,18 +325,36 @@ invariant_of-self-3-clause-steady g c = λ told.
     let steady = subst (λ k. Steady (d.left k) (d.moment k) journal) (sym same.0) (a.steady told) in
     subst (Steady (d.left new) (d.moment new)) (sym passed)
     (∥∥₁_elim stands (Steady-prop (d.left new) (d.moment new) (confirm_all (d.moment new) ps journal)) (λ s.
-    (laws d.moment d.left d.files (g.met.D.Disk.now_only told) (g.met.D.Disk.now_each told) (g.met.D.Disk.reads_left told)).confirmed new journal (joined 0 (unstored journal) lines) ps (λ p there. all_safe journal c.journal.ensures.alone p.id)
-    (joins told journal lines (unstored journal) c.journal.ensures.legal will s)
-    (c.commit-written.ensures.steady told journal lines (unstored journal) c.journal.ensures.legal s will steady)))
+    (laws d.moment d.left d.files (g.met.D.Disk.now_only told) (g.met.D.Disk.now_each told) (g.met.D.Disk.reads_left told)).confirmed new journal (joined 0 (unstored journal) lines) ps (λ p there. all_safe journal c.undecided.ensures.tells.alone p.id)
+    (joins told journal lines (unstored journal) c.undecided.ensures.tells.legal will s)
+    (c.commit-written.ensures.steady told journal lines (unstored journal) c.undecided.ensures.tells.legal s will steady)))
 
 pub returns-clause-wrote : goal.returns-clause-wrote
 returns-clause-wrote g c =
     let moment = g.D.Disk.moment in
     let a = c.args.self.now in
     let now = c.confirm_all.new.self.entries in
-    let later : moment a.store.disk ≤ c.moment-stamp.result = omega (arith, c.moment-stamp.ensures, c.commit-written.ensures.later, ap moment c.reserve-else-is_err.ensures.same.0) in (
+    let later : moment a.store.disk ≤ c.moment-stamp.result = omega (arith, c.moment-stamp.ensures, c.commit-written.ensures.ran.later, ap moment c.reserve-else-is_err.ensures.same.0) in (
       omega (arith, c.undecided.ensures.count, c.len-count.ensures, c.if-count-eq0.false),
       c.confirm_all.ensures.none,
-      subst (λ l. IsQuiet l now) c.reserve.ensures.entries c.confirm_all.ensures.quiet,
+      subst (λ l. AddsConfirmsAlone l now) c.reserve.ensures.entries c.confirm_all.ensures.quiet,
       subst (λ l. AddsSince (moment a.store.disk) l now) c.reserve.ensures.entries (since_earlier (moment a.store.disk) c.moment-stamp.result c.reserve.new.self.entries now later c.confirm_all.ensures.since),
     )
+
+pub returns-clause-steps : goal.returns-clause-steps
+returns-clause-steps g c =
+    let d = g.D.Disk in
+    let a = c.args.self.now in
+    let new = c.commit-written.new.self in
+    let running : new.halted ≡ false = (no_error c.commit-written.result (sym c.is_err-2.ensures.value ∙ c.if-is_err-3.false) c.commit-written.ensures.ok).0 in
+    record {
+      same_config = refl;
+      same_opened = refl;
+      stopped = (λ is. absurd (not_err Did Stopped is), λ is. absurd (false≢true (sym c.if-self.false ∙ is)));
+      halts = (λ is. absurd (false≢true (sym running ∙ is)), λ no. absurd no);
+      goes_on = running;
+      memory = λ is. absurd (not_err Did Memory is);
+      at_rest = λ is. absurd (not_err Did Stopped is);
+      legal = c.confirm_all.ensures.legal;
+      ran = subst (λ disk. Ran d disk new.disk (IsErrOf (Ok Did) Fault)) c.reserve-else-is_err.ensures.same.0 (no_fault d c.reserve-else-is_err.new.self.disk new.disk _ (IsErrOf (Ok Did) Fault) (not_err Did Fault) c.commit-written.ensures.ran);
+    }

@@ -1,0 +1,47 @@
+//! Times parts of the store by themselves. A word picks the part: `gates`, `requests`, `packs` or `queues`; each prints what it
+//! did, with nanoseconds or microseconds for each. Without a word it does a little of each, and takes no time.
+#![tactic(auto)]
+
+mod file;
+mod gates;
+mod lanes;
+mod locked;
+mod packs;
+mod queues;
+mod requests;
+
+use std::rt::Clock;
+use std::sync::Wait;
+use std::thread::Threads;
+use std::{env, io};
+
+fn main(rt: HostRuntime) -> io::Result<()> {
+    let mut words = env::args(&rt)?;
+    let _program = words.next();
+    match words.next() {
+        Some(part) => time(&rt, &part),
+        None => try_out(&rt),
+    }
+}
+
+/// Takes the times of a part.
+fn time<R: AllocGlobal + Clock + Print + Sync + Threads + Wait>(
+    rt: &R,
+    part: &str,
+) -> io::Result<()> {
+    match part {
+        "gates" => gates::show(rt, true),
+        "requests" => requests::show(rt, true),
+        "packs" => packs::show(rt, true),
+        "queues" => queues::show(rt, true),
+        _ => println!(rt; "no such part"),
+    }
+}
+
+/// Does a little of each part.
+fn try_out<R: AllocGlobal + Clock + Print + Sync + Threads + Wait>(rt: &R) -> io::Result<()> {
+    gates::show(rt, false)?;
+    requests::show(rt, false)?;
+    packs::show(rt, false)?;
+    queues::show(rt, false)
+}

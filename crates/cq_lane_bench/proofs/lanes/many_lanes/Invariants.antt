@@ -1,5 +1,0 @@
-use Rattle.cq_lane.specs.Lanes.{lane_ids}
-use Rattle.cq_lane_bench.proofs.lanes.many_lanes.Given as goal
-
-abbrev pub ghosts-beside_many : goal.ghosts-beside_many
-ghosts-beside_many g a = record { tables = lane_ids a.lanes.now }

@@ -1,5 +1,0 @@
-use Rattle.cq_lane.specs.Lanes.{lane_ids}
-use Rattle.cq_lane_bench.proofs.lanes.one_lane.Given as goal
-
-abbrev pub ghosts-beside : goal.ghosts-beside
-ghosts-beside g a = record { tables = lane_ids a.lanes }
