@@ -1,0 +1,6 @@
+pub mod Words
+pub mod Calls
+pub mod Steps
+pub mod Requests
+pub mod Grammar
+pub mod Scripts
