@@ -32,9 +32,8 @@ use Rattle.cq_index.specs.Places.{place_of, entry_at}
 use Rattle.cq_index.specs.Opened.{IsIndex}
 use Rattle.cq_index.specs.Segments.{name_of, count_of, present_of, IsVacant, IsSegment, Knows}
 use Rattle.cq_index.proofs.Entries.{entry_in}
-use Rattle.cq_held.specs.Held.{bytes_in, content_of}
-use Rattle.cq_held.proofs.Images.{at_name}
-use Rattle.cq_held.specs.Folder.{IsSettled}
+use Rattle.cq_folder.specs.Held.{bytes_in, content_of, IsSettled}
+use Rattle.cq_folder.proofs.Images.{at_name}
 use Rattle.cq_back.specs.Folder.{index_file, small_file, file_bytes, IsStray, IsImageOrWithout}
 use Rattle.cq_back.specs.declared.error.BackError.{BackError}
 use Rattle.cq_back.specs.declared.error.BackError.TheVariants.{Fault, Memory, Damaged}

@@ -11,14 +11,13 @@ use Rattle.cq_index.specs.Segments.{name_of, count_of, len_of, IsOpen, IsSegment
 use Rattle.cq_journal.specs.declared.event.Message.{Message}
 use Rattle.cq_journal.specs.History.{opened_in}
 use Rattle.cq_journal.specs.Legal.{AreLines}
-use Rattle.cq_held.specs.Held.{as_read, contents_of}
-use Rattle.cq_held.specs.Folder.{IsSettled}
-use Rattle.cq_held.specs.Standing.{StillHolds}
-use Rattle.cq_held.specs.Steady.{IsUnsound, SoundBy}
+use Rattle.cq_folder.specs.Held.{as_read, contents_of, IsSettled}
+use Rattle.cq_folder.specs.Standing.{StillSound}
+use Rattle.cq_folder.specs.Steady.{IsUnsound, SoundBy}
 use Rattle.cq_back.specs.declared.error.BackError.{BackError}
 use Rattle.cq_back.specs.declared.error.BackError.TheVariants.{Fault}
 use Rattle.cq_back.specs.declared.found.FoundQueue.{FoundQueue}
-use Rattle.cq_back.specs.Folder.{index_file, small_file, IsOneQueue, ReadsSame, IsImageOrWithout}
+use Rattle.cq_back.specs.Folder.{index_file, small_file, IsOneQueue, HasNoShared, ReadsSame, IsImageOrWithout}
 use Rattle.cq_back.specs.Cause.{HasCause}
 use Rattle.cq_back.specs.Found.{BreaksFolder}
 use Rattle.cq_back.specs.Read.{AreHeld, AreMatched, IfDamaged}
@@ -26,7 +25,7 @@ use Rattle.cq_back.specs.Read.{AreHeld, AreMatched, IfDamaged}
 -- In a folder with no other file, the files held exactly these messages of each queue, in order, each with its entry; they still do, in whatever a crash leaves.
 pub record FindsMessages {D : Type 0} (g : Ghosts D) (old new : D) (found : FoundQueue) : Type 0 where
   pub ok : g.tells → IsOneQueue (g.files old) → SoundBy (as_read (g.files old)) (λ q. opened_in q found.lines)
-  pub now : g.tells → IsOneQueue (g.files old) → StillHolds (g.files new) (λ q. opened_in q found.lines)
+  pub now : g.tells → IsOneQueue (g.files old) → StillSound (g.files new) (λ q. opened_in q found.lines)
   pub held : g.tells → AreHeld (as_read (g.files old)) found.held.items found.lines
   pub held_now : g.tells → AreHeld (as_read (g.files new)) found.held.items found.lines
 
@@ -51,11 +50,11 @@ pub record FindsFiles {D : Type 0} (g : Ghosts D) (old new : D) (found : FoundQu
   pub bare_index : g.tells → IsOpen found.segment → len_of found.segment ≤ 128 → IsThere (g.files new index_file) (λ f. f.most ≤ 128)
   pub bare_small : g.tells → IsStoreOpen found.small → store_len found.small ≤ 128 → IsThere (g.files new small_file) (λ f. f.most ≤ 128)
 
--- `Damaged` tells bytes that were read and break a rule, the first one that the folder breaks, and then it isn't sound. Without a fault only syncs and reads were done, and of a folder that isn't sound also with one.
+-- `Damaged` tells bytes that were read and break a rule, the first one that the folder breaks, and then it isn't sound, if no shared file is there. Without a fault only syncs and reads were done, and of a folder that isn't sound also with one.
 pub record Refuses {D : Type 0} (g : Ghosts D) (old new : D) (error : BackError) : Type 0 where
   pub damaged : IfDamaged error (λ name place found. g.tells → BreaksFolder (as_read (g.files old)) name place found)
   pub cause : IfDamaged error HasCause
-  pub refuses : IfDamaged error (λ name place found. g.tells → IsUnsound (as_read (g.files old)))
+  pub refuses : IfDamaged error (λ name place found. g.tells → HasNoShared (g.files old) → IsUnsound (as_read (g.files old)))
   pub reads : g.tells → (error ≡ Fault → ⊥) → ReadsSame (g.files old) (g.files new)
   pub only_reads : g.tells → (error ≡ Fault → ⊥) → LeavesOnly g old new (IsImage (g.files old))
   pub unsound : g.tells → IsOneQueue (g.files old) → IsUnsound (as_read (g.files old)) → LeavesOnly g old new (IsImage (g.files old))
@@ -64,4 +63,4 @@ pub record Refuses {D : Type 0} (g : Ghosts D) (old new : D) (error : BackError)
 pub record KeepsFolder {D : Type 0} (g : Ghosts D) (old new : D) : Type 0 where
   pub no_new : g.tells → (n : Name) → g.files old n ≡ None → g.files new n ≡ None
   pub any_moment : g.tells → LeavesOnly g old new (IsImageOrWithout (g.files old))
-  pub meanwhile : g.tells → (lines : ℕ → List Message) → StillHolds (g.files old) lines → LeavesOnly g old new (λ image. SoundBy image lines)
+  pub meanwhile : g.tells → (lines : ℕ → List Message) → StillSound (g.files old) lines → LeavesOnly g old new (λ image. SoundBy image lines)

@@ -5,7 +5,7 @@ ghost use Rattle.cq_disk.specs.Run.{Ran, LeavesOnly};
 ghost use Rattle.cq_entry.specs.Entry.{IsEntry, IsPresent, entry_bytes};
 ghost use Rattle.cq_small.specs.Store.{name_of as store_name, len_of as store_len, IsSmallStore};
 ghost use Rattle.cq_index.specs.Places.{entry_at, place_of};
-ghost use Rattle.cq_held.specs.Held.{as_read, contents_of};
+ghost use Rattle.cq_folder.specs.Held.{as_read, contents_of};
 ghost use Rattle.cq_back.specs.declared.error.BackError.TheVariants.{Fault as back_fault, Damaged};
 ghost use Rattle.cq_back.specs.Cause.{HasCause};
 ghost use Rattle.cq_back.specs.Folder.{index_file, small_file, file_bytes};

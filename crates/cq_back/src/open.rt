@@ -7,13 +7,12 @@ ghost use Rattle.cq_disk.specs.Run.{Ran, LeavesOnly};
 ghost use Rattle.cq_journal.specs.declared.event.Message.{Message};
 ghost use Rattle.cq_journal.specs.History.{opened_in};
 ghost use Rattle.cq_journal.specs.Legal.{AreLines};
-ghost use Rattle.cq_held.specs.Held.{as_read, contents_of};
-ghost use Rattle.cq_held.specs.Steady.{IsUnsound, SoundBy};
+ghost use Rattle.cq_folder.specs.Held.{as_read, contents_of, IsSettled};
+ghost use Rattle.cq_folder.specs.Steady.{IsUnsound, SoundBy};
 ghost use Rattle.cq_small.specs.Store.{name_of as store_name, len_of as store_len, IsVacant as IsStoreVacant, IsSmallStore};
 ghost use Rattle.cq_index.specs.Codec.{entry_len, most_entries};
 ghost use Rattle.cq_index.specs.Segments.{name_of, count_of, len_of, IsOpen, IsVacant, IsSegment};
-ghost use Rattle.cq_held.specs.Folder.{IsSettled};
-ghost use Rattle.cq_held.specs.Standing.{StillHolds};
+ghost use Rattle.cq_folder.specs.Standing.{StillSound};
 ghost use Rattle.cq_back.specs.declared.error.BackError.TheVariants.{Fault as back_fault};
 ghost use Rattle.cq_back.specs.Cause.{HasCause};
 ghost use Rattle.cq_back.specs.Folder.{index_file, small_file, IsOneQueue, ReadsSame, IsImageOrWithout, IsWithoutStray};
@@ -33,7 +32,8 @@ use std::alloc::Global;
 /// Opens a folder that has at most the two files of one segment of queue 0: syncs every file, reads the segment, its small
 /// store and each message, and removes a small store whose index isn't there.
 ///
-/// `Damaged` tells the first rule that the folder breaks; then it isn't sound. Until then it only syncs and reads.
+/// `Damaged` tells the first rule that the folder breaks; then it isn't sound, if no shared file is there: shared messages aren't
+/// served, and a present entry of one is refused. Until then it only syncs and reads.
 pub fn open_folder<D: Disk>(alloc: Global, disk: &mut D) -> Result<FoundQueue, BackError>
     ensures messages { IfOk result (FindsMessages D.Disk disk.old disk.new) }
     ensures lines { IfOk result FoundLines }

@@ -1,7 +1,9 @@
-//! Times parts of the store by themselves. A word picks the part: `gates`, `requests`, `packs` or `queues`; each prints what it
-//! did, with nanoseconds or microseconds for each. Without a word it does a little of each, and takes no time.
+//! Times parts of the store by themselves. A word picks the part: `gates`, `requests`, `packs`, `queues`, or `disks` and a
+//! folder's path; each prints what it did, with nanoseconds or microseconds for each. Without a word it does a little of each
+//! but the last, and takes no time.
 #![tactic(auto)]
 
+mod disks;
 mod file;
 mod gates;
 mod lanes;
@@ -10,7 +12,8 @@ mod packs;
 mod queues;
 mod requests;
 
-use std::rt::Clock;
+use std::fs::File;
+use std::rt::{Clock, Files};
 use std::sync::Wait;
 use std::thread::Threads;
 use std::{env, io};
@@ -19,17 +22,29 @@ fn main(rt: HostRuntime) -> io::Result<()> {
     let mut words = env::args(&rt)?;
     let _program = words.next();
     match words.next() {
-        Some(part) => time(&rt, &part),
+        Some(part) => time(&rt, &part, words.next().as_deref()),
         None => try_out(&rt),
     }
 }
 
 /// Takes the times of a part.
-fn time<R: AllocGlobal + Clock + Print + Sync + Threads + Wait>(
-    rt: &R,
-    part: &str,
-) -> io::Result<()> {
+fn time<
+    R: AllocGlobal
+        + Clock
+        + Clone
+        + Drop
+        + Files<File = File>
+        + Print
+        + Send
+        + Sync
+        + Threads
+        + Wait,
+>(rt: &R, part: &str, folder: Option<&str>) -> io::Result<()> {
     match part {
+        "disks" => match folder {
+            Some(folder) => disks::show(rt, folder),
+            None => println!(rt; "no folder is named"),
+        },
         "gates" => gates::show(rt, true),
         "requests" => requests::show(rt, true),
         "packs" => packs::show(rt, true),

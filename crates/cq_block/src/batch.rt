@@ -58,9 +58,10 @@ impl RecordBatch {
         }
     }
 
-    /// The bytes of the records.
+    /// The bytes of the records, which are these blocks, one after another.
     pub fn bytes(&self) -> &[u8]
-        ensures { result.now ≡ self.now.bytes }
+        ensures bytes { result.now ≡ self.now.bytes }
+        ensures chain { IsRun 0 self.now.bytes self.now.blocks [] }
     {
         &self.spelled
     }

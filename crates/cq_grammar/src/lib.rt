@@ -15,6 +15,3 @@ mod streams;
 
 pub use reader::read_script;
 pub use script::{Halt, Script, ScriptError, StepWord, Steps, Streams, Why};
-
-#[cfg(test)]
-mod tests;

@@ -1,5 +1,6 @@
 -- What the calls of a segment do.
-use Rattle.std.specs.Prelude.{◌≡◌, ◌⊎◌, ◌↔◌, ◌+◌, ◌≤◌, ◌<◌, ◌++◌, ℕ, List, [], Option, Some, All, Contains, IfSome, IsSome, length, slice_index}
+use Rattle.std.specs.Prelude.{◌≡◌, ◌⊎◌, ◌↔◌, ◌+◌, ◌≤◌, ◌<◌, ◌++◌, ℕ, List, [], Option, Some, All, Contains, IfSome, IsSome, filter, length, not, slice_index}
+use Rattle.cq_bytes.specs.Numbers.{contains}
 use Rattle.cq_disk.specs.declared.disk.Disk.{Ghosts}
 use Rattle.cq_disk.specs.declared.name.Name.{Name}
 use Rattle.cq_disk.specs.File.{File, fresh, settled}
@@ -81,6 +82,8 @@ pub record HasAdded {D : Type 0} (g : Ghosts D) (before after : Segment) (old ne
 pub record Loses (old new : Segment) (at : List ℕ) : Type 0 where
   pub count : count_of new ≡ count_of old
   pub reserved : reserved_of new ≡ reserved_of old
+  pub opened : IsOpen old → IsOpen new
+  pub left : present_of new ≡ filter (λ k. not (contains at k)) (present_of old)
   pub present : (k : ℕ) → Contains (present_of new) k ↔ (Contains (present_of old) k × (Contains at k → ⊥))
 
 -- The file is as the segment's own calls left it, and in it these entries are gone.

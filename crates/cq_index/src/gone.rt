@@ -1,6 +1,7 @@
 // Entries that go from a segment.
-ghost use Rattle.std.specs.Prelude.{◌≡◌, ◌↔◌, ◌+◌, ◌≤◌, ◌<◌, ℕ, All, Contains, length, vec_len, vec_capacity, filter, IfOk, OnOk, IsErr};
+ghost use Rattle.std.specs.Prelude.{◌≡◌, ◌↔◌, ◌+◌, ◌≤◌, ◌<◌, ℕ, All, Contains, length, vec_len, vec_capacity, filter, not, IfOk, OnOk, IsErr};
 ghost use Rattle.std.specs.List.Sorted.{IsStrictlyIncreasing};
+ghost use Rattle.cq_bytes.specs.Numbers.{contains};
 ghost use Rattle.cq_disk.specs.Files.{IsThere};
 ghost use Rattle.cq_disk.specs.Run.{Ran};
 ghost use Rattle.cq_gate.specs.Calls.{Moves, Touches};
@@ -75,6 +76,7 @@ fn remove(numbers: &mut Vec<u32>, gone: &[u32])
     ensures rising { IsStrictlyIncreasing numbers.new.items }
     ensures len { vec_len numbers.new ≤ vec_len numbers.old }
     ensures capacity { vec_capacity numbers.old ≤ vec_capacity numbers.new }
+    ensures kept { numbers.new.items ≡ filter (λ x. not (contains gone.now x)) numbers.old.items }
     ensures left { (k : ℕ) → Contains numbers.new.items k ↔ (Contains numbers.old.items k × (Contains gone.now k → ⊥)) }
 {
     numbers.retain(|number| !has(gone, *number));

@@ -14,6 +14,3 @@ pub use altered::Altered;
 pub use change::{Change, Note};
 pub use crashable::Crashable;
 pub use disk::MemDisk;
-
-#[cfg(test)]
-mod tests;

@@ -17,11 +17,11 @@ ghost use Rattle.cq_journal.specs.History.{line};
 ghost use Rattle.cq_journal.specs.Legal.{Legal, newest};
 ghost use Rattle.cq_journal.specs.Lawful.{Legal-prop};
 ghost use Rattle.cq_journal.specs.Asks.{asks, replies};
-ghost use Rattle.cq_held.specs.Held.{as_read, contents_of, Held};
-ghost use Rattle.cq_held.specs.Steady.{IsUnsound, SoundBy, Steady, SteadyWhere-prop};
-ghost use Rattle.cq_held.specs.Standing.{Standing, StillHolds};
+ghost use Rattle.cq_folder.specs.Held.{as_read, contents_of, Held};
+ghost use Rattle.cq_folder.specs.Steady.{IsUnsound, SoundBy, Steady, SteadyWhere-prop};
+ghost use Rattle.cq_folder.specs.Standing.{Standing, StillSound};
 ghost use Rattle.cq_back.specs.Cause.{HasCause};
-ghost use Rattle.cq_back.specs.Folder.{ReadsSame};
+ghost use Rattle.cq_back.specs.Folder.{ReadsSame, no_sharing};
 ghost use Rattle.cq_back.specs.Found.{BreaksFolder};
 ghost use Rattle.cq_core.specs.Answers.{bodiless};
 ghost use Rattle.cq_core.specs.Core.{HasReplies, TakesNextIds};
@@ -70,7 +70,7 @@ pub struct Node<D: Disk> {
     ghost placed: { store.halted ≡ false → D.tells → AreAt (content_in (D.files store.disk (small_name 0 0))) core.places (unsent core.entries) } by { PlacedWhere-prop (store.halted ≡ false) D.tells (content_in (D.files store.disk (small_name 0 0))) core.places (unsent core.entries) },
     ghost whole: { D.tells → HasReplies core },
     ghost legal: { Legal core.entries } by { Legal-prop core.entries },
-    ghost standing: { store.halted ≡ false → D.tells → ∥ Standing (D.files store.disk) core.entries (stored_lines core.entries) ∥₁ },
+    ghost standing: { store.halted ≡ false → D.tells → ∥ Standing (D.files store.disk) no_sharing core.entries (stored_lines core.entries) ∥₁ },
     ghost steady: { D.tells → Steady (D.left store.disk) (D.moment store.disk) core.entries } by { SteadyWhere-prop D.tells (D.left store.disk) (D.moment store.disk) core.entries },
     ghost short: { store.halted ≡ false → D.tells → HasFew (D.files store.disk (index_name 0 0)) (opened + confirmed core.entries) },
     ghost bounded: { D.tells → HasFew (D.files store.disk (index_name 0 0)) (opened + publishes (asks core.entries 0)) },
@@ -139,7 +139,7 @@ impl<D: Disk> Node<D> {
         ensures unsound { IfErr result (λ back. D.tells → IsUnsound (as_read (D.files disk)) → LeavesOnly D.Disk disk back.disk (IsImage (D.files disk))) }
         // If whatever a crash could leave before held some messages, it holds them at every moment meanwhile, whichever the
         // answer; and no file is new.
-        ensures meanwhile { (lines : ℕ → List Message) → D.tells → StillHolds (D.files disk) lines → IfOk result (λ node. LeavesOnly D.Disk disk (disk_of node) (λ image. SoundBy image lines)) × IfErr result (λ back. LeavesOnly D.Disk disk back.disk (λ image. SoundBy image lines)) }
+        ensures meanwhile { (lines : ℕ → List Message) → D.tells → StillSound (D.files disk) lines → IfOk result (λ node. LeavesOnly D.Disk disk (disk_of node) (λ image. SoundBy image lines)) × IfErr result (λ back. LeavesOnly D.Disk disk back.disk (λ image. SoundBy image lines)) }
         ensures alone { IfErr result (λ back. D.tells → HasNoOther (D.files back.disk)) }
         ensures ran { MatchResult result (λ node. Ran D.Disk disk (disk_of node) ⊥) (λ back. Ran D.Disk disk back.disk (back.error ≡ open_fault)) }
     {
@@ -406,7 +406,7 @@ fn open_queue<D: Disk>(alloc: Global, disk: &mut D) -> Result<Opened, OpenError>
     ensures opened { IfOk result (λ found. IsOpening (D.moment disk.new) found.core.entries) }
     ensures told { IfOk result (λ found. (found.core.told ≡ []) × Legal found.core.entries) }
     ensures held { IfOk result (λ found. D.tells → SoundBy (as_read (D.files disk.old)) (line found.core.entries)) }
-    ensures standing { IfOk result (λ found. D.tells → ∥ Standing (D.files disk.new) found.core.entries (stored_lines found.core.entries) ∥₁) }
+    ensures standing { IfOk result (λ found. D.tells → ∥ Standing (D.files disk.new) no_sharing found.core.entries (stored_lines found.core.entries) ∥₁) }
     ensures steady { IfOk result (λ found. D.tells → Steady (D.left disk.new) (D.moment disk.new) found.core.entries) }
     ensures placed { IfOk result (λ found. D.tells → AreAt (content_in (D.files disk.new (small_name 0 0))) found.core.places (unsent found.core.entries)) }
     ensures within { IfOk result (λ found. AreWithin (small_len found.small) found.core.places) }
@@ -421,7 +421,7 @@ fn open_queue<D: Disk>(alloc: Global, disk: &mut D) -> Result<Opened, OpenError>
     ensures reads { IfErr result (λ error. IfBroken error (λ name place found. D.tells → ReadsSame (D.files disk.old) (D.files disk.new))) }
     ensures only_reads { IfErr result (λ error. IfBroken error (λ name place found. D.tells → LeavesOnly D.Disk disk.old disk.new (IsImage (D.files disk.old)))) }
     ensures unsound { IfErr result (λ error. D.tells → IsUnsound (as_read (D.files disk.old)) → LeavesOnly D.Disk disk.old disk.new (IsImage (D.files disk.old))) }
-    ensures meanwhile { D.tells → (lines : ℕ → List Message) → StillHolds (D.files disk.old) lines → LeavesOnly D.Disk disk.old disk.new (λ image. SoundBy image lines) }
+    ensures meanwhile { D.tells → (lines : ℕ → List Message) → StillSound (D.files disk.old) lines → LeavesOnly D.Disk disk.old disk.new (λ image. SoundBy image lines) }
     ensures ran { Ran D.Disk disk.old disk.new (IsErrOf result open_fault) }
 {
     let found = match open_folder(alloc, disk) {

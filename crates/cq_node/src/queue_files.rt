@@ -7,8 +7,8 @@ ghost use Rattle.cq_disk.specs.Run.{Ran, LeavesOnly};
 ghost use Rattle.cq_journal.specs.declared.event.Entry.{Entry as JournalEntry};
 ghost use Rattle.cq_journal.specs.declared.event.Message.{Message};
 ghost use Rattle.cq_journal.specs.Legal.{Legal};
-ghost use Rattle.cq_held.specs.Steady.{Steady};
-ghost use Rattle.cq_held.specs.Standing.{Standing};
+ghost use Rattle.cq_folder.specs.Steady.{Steady};
+ghost use Rattle.cq_folder.specs.Standing.{Standing};
 ghost use Rattle.cq_entry.specs.Entry.{IsEntry};
 ghost use Rattle.cq_gate.specs.Gate.{header_calls};
 ghost use Rattle.cq_small.specs.Record.{HasRecord, StandsIn};
@@ -18,6 +18,7 @@ ghost use Rattle.cq_index.specs.Places.{index_name};
 ghost use Rattle.cq_index.specs.Segments.{name_of, gate_of, count_of, present_of, reserved_of, len_of, IsOpen, IsFiled};
 ghost use Rattle.cq_node.specs.Files.{append_calls, HasNoOther, HasFew, IsSmallFile, IsIndexFile};
 ghost use Rattle.cq_node.specs.Agreeing.{StaysStanding, StaysSteady, WillCome, WillJoin, Joined};
+ghost use Rattle.cq_back.specs.Folder.{no_sharing};
 ghost use Rattle.cq_core.specs.Stored.{content_in};
 
 use cq_disk::{Disk, Fault};
@@ -87,7 +88,7 @@ impl<D: Disk> QueueFiles<D> {
         ensures kept { OnOk result (D.tells → (place : ℕ) (body : List ℕ) → StandsIn (content_in (D.files self.old.disk (small_name 0 0))) place body → StandsIn (content_in (D.files self.new.disk (small_name 0 0))) place body) }
         ensures added { OnOk result (D.tells → (offset : ℕ) (body : List ℕ) → HasRecord records.now offset body → StandsIn (content_in (D.files self.new.disk (small_name 0 0))) (end_of self.old.small + offset) body) }
         // A crash at any moment leaves what agrees with the journal.
-        ensures steady { D.tells → (past : List JournalEntry) (lines : ℕ → List Message) (ms : List Message) → Legal past → Standing (D.files self.old.disk) past lines → WillJoin (D.files self.old.disk) (end_of self.old.small) records.now past lines entries.now ms → Steady (D.left self.old.disk) (D.moment self.old.disk) past → Steady (D.left self.new.disk) (D.moment self.new.disk) past }
+        ensures steady { D.tells → (past : List JournalEntry) (lines : ℕ → List Message) (ms : List Message) → Legal past → Standing (D.files self.old.disk) no_sharing past lines → WillJoin (D.files self.old.disk) (end_of self.old.small) records.now past lines entries.now ms → Steady (D.left self.old.disk) (D.moment self.old.disk) past → Steady (D.left self.new.disk) (D.moment self.new.disk) past }
         ensures stands { OnOk result (D.tells → (past : List JournalEntry) (lines : ℕ → List Message) (ms : List Message) → Legal past → WillJoin (D.files self.old.disk) (end_of self.old.small) records.now past lines entries.now ms → Joined (D.files self.old.disk) (D.files self.new.disk) past lines ms) }
         // Whatever a crash leaves of the index has at most so many more entries.
         ensures more { D.tells → (n : ℕ) → HasFew (D.files self.old.disk (index_name 0 0)) n → HasFew (D.files self.new.disk (index_name 0 0)) (n + length entries.now) }
@@ -199,7 +200,7 @@ fn add_entries<D: Disk>(disk: &mut D, index: &mut Segment, entries: &[Entry]) ->
     ensures file { OnOk result (IsIndexFile D.tells index.new (D.files disk.new (index_name 0 0))) }
     ensures count { OnOk result (count_of index.new ≡ count_of index.old + length entries.now) }
     ensures others { D.tells → (n : Name) → n ≢ index_name 0 0 → D.files disk.new n ≡ D.files disk.old n }
-    ensures steady { D.tells → (past : List JournalEntry) (lines : ℕ → List Message) (ms : List Message) → Legal past → Standing (D.files disk.old) past lines → WillCome (D.files disk.old) past lines entries.now ms → Steady (D.left disk.old) (D.moment disk.old) past → Steady (D.left disk.new) (D.moment disk.new) past }
+    ensures steady { D.tells → (past : List JournalEntry) (lines : ℕ → List Message) (ms : List Message) → Legal past → Standing (D.files disk.old) no_sharing past lines → WillCome (D.files disk.old) past lines entries.now ms → Steady (D.left disk.old) (D.moment disk.old) past → Steady (D.left disk.new) (D.moment disk.new) past }
     ensures stands { OnOk result (D.tells → (past : List JournalEntry) (lines : ℕ → List Message) (ms : List Message) → Legal past → WillCome (D.files disk.old) past lines entries.now ms → Joined (D.files disk.old) (D.files disk.new) past lines ms) }
     ensures more { D.tells → (n : ℕ) → HasFew (D.files disk.old (index_name 0 0)) n → HasFew (D.files disk.new (index_name 0 0)) (n + length entries.now) }
     ensures calls { OnOk result (D.moment disk.new ≡ D.moment disk.old + append_calls (gate_of index.old)) }
@@ -224,7 +225,7 @@ fn extend_index<D: Disk>(disk: &mut D, index: &mut Segment, entries: &[Entry]) -
     ensures file { OnOk result (IsIndexFile D.tells index.new (D.files disk.new (index_name 0 0))) }
     ensures count { OnOk result (count_of index.new ≡ count_of index.old + length entries.now) }
     ensures others { D.tells → (n : Name) → n ≢ index_name 0 0 → D.files disk.new n ≡ D.files disk.old n }
-    ensures steady { D.tells → (past : List JournalEntry) (lines : ℕ → List Message) (ms : List Message) → Legal past → Standing (D.files disk.old) past lines → WillCome (D.files disk.old) past lines entries.now ms → Steady (D.left disk.old) (D.moment disk.old) past → Steady (D.left disk.new) (D.moment disk.new) past }
+    ensures steady { D.tells → (past : List JournalEntry) (lines : ℕ → List Message) (ms : List Message) → Legal past → Standing (D.files disk.old) no_sharing past lines → WillCome (D.files disk.old) past lines entries.now ms → Steady (D.left disk.old) (D.moment disk.old) past → Steady (D.left disk.new) (D.moment disk.new) past }
     ensures stands { OnOk result (D.tells → (past : List JournalEntry) (lines : ℕ → List Message) (ms : List Message) → Legal past → WillCome (D.files disk.old) past lines entries.now ms → Joined (D.files disk.old) (D.files disk.new) past lines ms) }
     ensures more { D.tells → (n : ℕ) → HasFew (D.files disk.old (index_name 0 0)) n → HasFew (D.files disk.new (index_name 0 0)) (n + length entries.now) }
     ensures calls { OnOk result (D.moment disk.new ≡ D.moment disk.old + (header_calls (len_of index.old) + 5)) }

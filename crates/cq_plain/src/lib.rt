@@ -17,6 +17,3 @@ pub use plain::Plain;
 pub fn laws()
     ensures { IsExact }
 {}
-
-#[cfg(test)]
-mod tests;

@@ -12,6 +12,3 @@ pub use body::body_text;
 pub use lines::reply_line;
 pub use outcome::Outcome;
 pub use session::{PutError, put_session};
-
-#[cfg(test)]
-mod tests;

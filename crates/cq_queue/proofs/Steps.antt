@@ -1,304 +1,147 @@
--- What stands beside the messages, through each call.
-use Prim.Native.Nat.{zero, suc}
-use Rattle.std.proofs.Common.{◌≡◌, ℕ, ◌+◌, ◌<◌, ◌≤◌, Bool, true, false, not, cond, List, [], ◌∷◌, ◌++◌, length, get_or, set, drop, refl, sym, ap, ◌∙◌, subst, arith, inl, inr}
-use Rattle.std.specs.Prelude.{◌==◌, ◌&&◌, Option, None, Some, Result, MatchResult, slice_get}
-use Rattle.std.specs.List.{insert}
-use Rattle.std.specs.List.Sorted.{IsBinarySearchResult}
-use Rattle.std.specs.Ordering.{nat_cmp}
-use Rattle.std.proofs.lemmas.List.Sorted.{searched}
-use Rattle.std.proofs.lemmas.List.{length_push}
-use Rattle.std.proofs.lemmas.Bool.{cond-true, cond-false, and_from, and_parts, and_left, and_right, or_left, or_right, eq-eqb, cases_Bool, both_ways}
-use Rattle.cq_queue.specs.declared.item.Item.{Item}
-use Rattle.cq_queue.specs.declared.item.Holder.{Holder}
-use Rattle.cq_queue.specs.declared.item.Holder.TheVariants.{Waiting, Out, Gone}
-use Rattle.cq_queue.specs.declared.outs.Held.{Held}
-use Rattle.cq_queue.specs.Items.{is_free, is_gone, is_out, is_with, ack_one, back_one, holding, waits, out_for, out_to, committed, undecided, settles, new_item, waiting_items, is_out_to, hand_out, ack, give_back, decide, count_out}
-use Rattle.cq_queue.specs.Slots.{slot_at, held_by, passes, alive, places}
-use Rattle.cq_queue.specs.Outs.{find, Puts}
-use Rattle.cq_queue.specs.Queue.{FindsOut, ListsGone, IsIndexed, HasRoom, IsRising, IsPlace}
-use Rattle.cq_queue.proofs.Places.{passes-within, IsPassing, passing, length-places, places-push, places-set, IsFirstPlace, first-at, places-rise, insert-place, alive-none, alive-one, map-alive-set, count-fewer}
-use Rattle.cq_queue.proofs.Finds.{free-not-out, free-not-gone, gone-not-free, gone-not-out, out-is, finds-push, finds-same, finds-put, finds-released, gone-push, gone-same, gone-added, gone-popped, popped-settles, splits-push, splits-same, splits-more}
+-- A segment whose one file was made, and the same segment after it: one call after another, told of the first one's segment.
+use Rattle.std.proofs.Common.{◌≡◌, ◌≢◌, ◌⊎◌, ℕ, ◌+◌, ◌<◌, ◌≤◌, List, ◌++◌, Option, sym, ap, ◌∙◌, subst, arith, length}
+use Rattle.std.specs.Prelude.{◌↔◌, Contains}
+use Rattle.cq_disk.specs.declared.name.Name.{Name}
+use Rattle.cq_disk.specs.declared.disk.Disk.{Ghosts}
+use Rattle.cq_disk.specs.File.{File}
+use Rattle.cq_entry.specs.declared.entry.Entry.{Entry as IndexEntry}
+use Rattle.cq_small.specs.declared.store.SmallStore.{SmallStore}
+use Rattle.cq_small.specs.Store as store
+use Rattle.cq_small.specs.Store.{small_name}
+use Rattle.cq_index.specs.Codec.{most_entries}
+use Rattle.cq_index.specs.Places.{index_name, entries_bytes}
+use Rattle.cq_index.specs.declared.segment.Segment.{Segment}
+use Rattle.cq_index.specs.Segments as index
+use Rattle.cq_journal.specs.declared.event.Message.{Message}
+use Rattle.cq_folder.specs.Folder.{Sharing}
+use Rattle.cq_queue.specs.declared.segment.QueueSegment.{QueueSegment}
+use Rattle.cq_queue.specs.Files.{content_in, ComesHeld, ComesHeldOn, HasEntriesFrom, HasRecords, KeepsRecords, WillCome}
+use Rattle.cq_queue.specs.Laid.{Lays}
+use Rattle.cq_queue.specs.QueueSegment.{CanGrow, Commits, HasCommitted, HasIndex, HasListed, HasRecorded, HasSmall, IsLonger, IsMore, ListsOnly, SameContent, SameIndex, SameNumber, SameSmall, TouchesOnly, count_of, end_of, index_file, index_in, present_of, small_file, small_in, small_len}
+use Rattle.cq_queue.proofs.Come.{batch_comes}
+use Rattle.cq_queue.proofs.Files.{apart, index_length}
+use Rattle.cq_queue.proofs.Runs.{Tells, come_same, contents_same, stays_come, touches_then}
+use Rattle.cq_queue.proofs.Stand.{keeps_entries}
 
--- the message of a delivery that is out
-pub record IsOutAt (ss : List (Option Item)) (k c d : ℕ) : Type 0 where
-  pub item : Item
-  pub stands : slot_at ss k ≡ Some item
-  pub holder : item.holder ≡ Out c d
-  pub within : k < length ss
+same_small_file : (s m : QueueSegment) → SameNumber s m → small_file m ≡ small_file s
+same_small_file s m same = λ i. small_name (same.queue i) (same.number i)
 
-pub out-at : (ss : List (Option Item)) (held : List Held) (k c d : ℕ) → FindsOut ss held → find c d held ≡ Some k → IsOutAt ss k c d
-out-at ss held k c d h e =
-    let t : passes (out_for c d) (slot_at ss k) ≡ true = h.there c d k e in
-    let p : IsPassing (out_for c d) (slot_at ss k) = passing (out_for c d) (slot_at ss k) t in
-    record { item = p.item; stands = p.stands; holder = out-is p.item.holder c d p.passing; within = passes-within (out_for c d) ss k t }
+same_index_file : (s m : QueueSegment) → SameNumber s m → index_file m ≡ index_file s
+same_index_file s m same = λ i. index_name (same.queue i) (same.number i)
 
--- ---- a publish
+-- what comes of the one comes of the other
+module _ {D : Type 0} (g : Ghosts D) (s m : QueueSegment) (same : SameNumber s m) (mid new : D) (entries : List IndexEntry) where
+  pub listed_as : count_of m ≡ count_of s → HasListed g m mid new entries → HasListed g s mid new entries
+  listed_as count has = record {
+    content = subst (λ (n : Name). content_in (g.files new n) ≡ content_in (g.files mid n) ++ entries_bytes entries) (same_index_file s m same) has.content;
+    new_entries = subst (λ (n : ℕ). HasEntriesFrom n entries (index_in (g.files new) s)) count (subst (λ (n : Name). HasEntriesFrom (count_of m) entries (content_in (g.files new n))) (same_index_file s m same) has.new_entries);
+    held = λ sharing ms will lines h. subst (λ (q : ℕ). ComesHeld (g.files mid) (g.files new) q sharing ms) same.queue
+        (has.held sharing ms (subst (λ (q : ℕ). WillCome (g.files mid) q m.number sharing entries ms) (sym same.queue) (subst (λ (n : ℕ). WillCome (g.files mid) s.queue n sharing entries ms) (sym same.number) will))) lines h;
+  }
 
-pub indexed-published : (ss : List (Option Item)) (ws : List ℕ) (held : List Held) (gone : List ℕ) (f id len : ℕ) (body : Option (List ℕ)) → IsIndexed ss ws held gone f
-    → IsIndexed (ss ++ Some (new_item id body len) ∷ []) (ws ++ length ss ∷ []) held gone f
-indexed-published ss ws held gone f id len body h = record {
-  waiting_is = places-push waits 0 ss (Some (new_item id body len)) ∙ ap (λ xs. xs ++ (0 + length ss) ∷ []) h.waiting_is ∙ ap (λ k. ws ++ k ∷ []) (omega arith);
-  finds_out = finds-push ss held (Some (new_item id body len)) h.finds_out (λ c d. refl);
-  lists_gone = gone-push ss gone (new_item id body len) h.lists_gone refl;
-  is_split = splits-push ss f (Some (new_item id body len)) h.is_split refl;
-}
+  pub lists_as : ListsOnly g m mid new entries → ListsOnly g s mid new entries
+  lists_as lists = record {
+    others = subst (λ (name : Name). (n : Name) → n ≢ name → g.files new n ≡ g.files mid n) (same_index_file s m same) lists.others;
+    any_moment = λ sharing ms will lines h. subst (λ (q : ℕ). ComesHeldOn g mid new q sharing ms) same.queue
+        (lists.any_moment sharing ms (subst (λ (q : ℕ). WillCome (g.files mid) q m.number sharing entries ms) (sym same.queue) (subst (λ (n : ℕ). WillCome (g.files mid) s.queue n sharing entries ms) (sym same.number) will))) lines h;
+  }
 
--- ---- a delivery
+module _ {D : Type 0} (g : Ghosts D) (t : Tells g) (s m : QueueSegment) (old mid new : D) where
+  -- records, once the small store is made
+  pub records_touch : SameIndex s m → TouchesOnly g (small_file s) old mid → SameContent g (small_file s) old mid → TouchesOnly g (small_file m) mid new → TouchesOnly g (small_file s) old new
+  records_touch same first made next = touches_then g t old mid new (small_file s) first made.held (subst (λ (n : Name). TouchesOnly g n mid new) (same_small_file s m same.number) next)
 
-pub indexed-first : (ss : List (Option Item)) (ws rest : List ℕ) (held : List Held) (gone : List ℕ) (f p : ℕ) → IsIndexed ss ws held gone f → ws ≡ p ∷ rest → IsFirstPlace 0 ss p rest
-indexed-first ss ws rest held gone f p h e = first-at ss p rest (h.waiting_is ∙ e)
+  pub records_next : (records : List ℕ) → SameIndex s m → HasSmall s m → SameContent g (small_file s) old mid → HasRecorded g m mid new records → HasRecorded g s old new records
+  records_next records same has made next =
+      let file = same_small_file s m same.number in
+      record {
+        kept_records = subst (λ (c : List ℕ). KeepsRecords c (small_in (g.files new) s)) made.same (subst (λ (n : Name). KeepsRecords (content_in (g.files mid n)) (content_in (g.files new n))) file next.kept_records);
+        new_records = subst (λ (end : ℕ). HasRecords end records (small_in (g.files new) s)) has.end (subst (λ (n : Name). HasRecords (end_of m) records (content_in (g.files new n))) file next.new_records);
+        held = λ sharing lines h. next.held sharing lines (made.held sharing lines h);
+      }
 
-pub first-within : (ss : List (Option Item)) (p : ℕ) (rest : List ℕ) → IsFirstPlace 0 ss p rest → p < length ss
-first-within ss p rest f = passes-within waits ss p (ap (passes waits) f.stands ∙ f.waiting)
+  -- entries, once the index is made
+  module _ (entries : List IndexEntry) (same : SameSmall s m) (first : TouchesOnly g (index_file s) old mid) (made : SameContent g (index_file s) old mid) where
+    will_next : (sharing : Sharing) (ms : List Message) → WillCome (g.files old) s.queue s.number sharing entries ms → WillCome (g.files mid) s.queue s.number sharing entries ms
+    will_next sharing ms will = come_same (g.files old) (g.files mid) s.queue s.number sharing entries ms (contents_same (g.files old) (g.files mid) (index_file s) made.same first.others) will
 
-pub indexed-delivered : (ss : List (Option Item)) (ws rest : List ℕ) (held after : List Held) (gone : List ℕ) (f p c d : ℕ) → IsIndexed ss ws held gone f → ws ≡ p ∷ rest
-    → find c d held ≡ None → Puts c d (Some p) held after → IsIndexed (set ss p (held_by (Out c d) (slot_at ss p))) rest after gone f
-indexed-delivered ss ws rest held after gone f p c d h e none puts =
-    let fp : IsFirstPlace 0 ss p rest = indexed-first ss ws rest held gone f p h e in
-    let x : Item = fp.item in
-    let s : Option Item = Some (holding (λ _. Out c d) x) in
-    let l : p < length ss = first-within ss p rest fp in
-    subst (λ (s : Option Item). IsIndexed (set ss p s) rest after gone f) (sym (ap (held_by (Out c d)) fp.stands)) (record {
-      waiting_is = fp.left s refl;
-      finds_out = finds-put ss held after p c d s h.finds_out l (λ a b. ap (passes (out_for a b)) fp.stands ∙ free-not-out x.holder a b fp.waiting) (λ a b. refl) none puts;
-      lists_gone = gone-same ss gone p s h.lists_gone l (ap (λ b. x.committed && b) (sym (free-not-gone x.holder fp.waiting)) ∙ sym (ap (passes settles) fp.stands));
-      is_split = splits-same ss f p s h.is_split l (sym (ap (passes undecided) fp.stands));
-    })
+    pub entries_touch : ListsOnly g m mid new entries → ListsOnly g s old new entries
+    entries_touch lists =
+        let next = lists_as g s m same.number mid new entries lists in
+        record {
+          others = λ n other. next.others n other ∙ first.others n other;
+          any_moment = λ sharing ms will. stays_come g t old mid new s.queue sharing ms first.any_moment made.held (next.any_moment sharing ms (will_next sharing ms will));
+        }
 
-pub delivered-view : (ss : List (Option Item)) (ws rest : List ℕ) (held : List Held) (gone : List ℕ) (f p c d : ℕ) → IsIndexed ss ws held gone f → ws ≡ p ∷ rest
-    → alive (set ss p (held_by (Out c d) (slot_at ss p))) ≡ hand_out c d (alive ss)
-delivered-view ss ws rest held gone f p c d h e =
-    let fp : IsFirstPlace 0 ss p rest = indexed-first ss ws rest held gone f p h e in
-    ap (λ (s : Option Item). alive (set ss p (held_by (Out c d) s))) fp.stands ∙ fp.handed (Out c d)
+    pub entries_next : HasIndex s m → HasListed g m mid new entries → HasListed g s old new entries
+    entries_next has listed =
+        let next = listed_as g s m same.number mid new entries has.count listed in
+        record {
+          content = next.content ∙ ap (λ (c : List ℕ). c ++ entries_bytes entries) made.same;
+          new_entries = next.new_entries;
+          held = λ sharing ms will lines h. next.held sharing ms (will_next sharing ms will) lines (made.held sharing lines h);
+        }
 
--- ---- an acknowledgement
+  -- entries, once their records have joined the small store
+  module _ (records : List ℕ) (entries : List IndexEntry) (can : CanGrow s (g.files old)) (few : count_of s + length entries ≤ most_entries) (same : SameIndex s m) (first : TouchesOnly g (small_file s) old mid) (recorded : HasRecorded g s old mid records) where
+    index_was : g.files mid (index_file s) ≡ g.files old (index_file s)
+    index_was = first.others (index_file s) (apart s.queue s.number s.queue s.number)
 
-pub indexed-acked : (ss : List (Option Item)) (ws : List ℕ) (held after : List Held) (gone : List ℕ) (f p c d : ℕ) → IsIndexed ss ws held gone f → find c d held ≡ Some p → Puts c d None held after
-    → IsIndexed (set ss p (held_by Gone (slot_at ss p))) ws after (cond (passes committed (slot_at ss p)) (gone ++ p ∷ []) gone) f
-indexed-acked ss ws held after gone f p c d h out puts =
-    let o : IsOutAt ss p c d = out-at ss held p c d h.finds_out out in
-    let x : Item = o.item in
-    let s : Option Item = Some (holding (λ _. Gone) x) in
-    let was : passes settles (slot_at ss p) ≡ false = ap (passes settles) o.stands ∙ and_right x.committed (is_gone x.holder) (ap is_gone o.holder) in
-    let added : ListsGone (set ss p s) (cond x.committed (gone ++ p ∷ []) gone) = elim (cases_Bool x.committed) [
-      | inl t ↦ subst (λ (xs : List ℕ). ListsGone (set ss p s) xs) (sym (cond-true x.committed (gone ++ p ∷ []) gone t)) (gone-added ss gone p s h.lists_gone o.within was (and_from x.committed true t refl))
-      | inr n ↦ subst (λ (xs : List ℕ). ListsGone (set ss p s) xs) (sym (cond-false x.committed (gone ++ p ∷ []) gone n)) (gone-same ss gone p s h.lists_gone o.within (and_left x.committed true n ∙ sym was))
-    ] in
-    subst (λ (y : Option Item). IsIndexed (set ss p (held_by Gone y)) ws after (cond (passes committed y) (gone ++ p ∷ []) gone) f) (sym o.stands) (record {
-      waiting_is = places-set waits 0 ss p s (sym (ap (passes waits) o.stands ∙ ap is_free o.holder)) ∙ h.waiting_is;
-      finds_out = finds-released ss held after p c d s h.finds_out out (λ a b. refl) puts;
-      lists_gone = added;
-      is_split = splits-same ss f p s h.is_split o.within (sym (ap (passes undecided) o.stands));
-    })
+    will_join : (sharing : Sharing) (ms : List Message) → Lays sharing (end_of s) ms records entries → WillCome (g.files mid) s.queue s.number sharing entries ms
+    will_join sharing ms lays = batch_comes (g.files mid) sharing s.queue s.number (end_of s) (count_of s) ms records entries lays recorded.new_records
+        (ap (λ (o : Option File). length (content_in o)) index_was ∙ index_length s.index (g.files old (index_file s)) can.knows.index) few
+        (λ k gt. first.others (index_name s.queue k) (apart s.queue k s.queue s.number) ∙ can.greatest k gt)
 
-ack-stays : (h : Holder) (c d : ℕ) → is_out c d h ≡ false → ack_one c d h ≡ h
-ack-stays Waiting c d n = refl
-ack-stays (Out x y) c d n = cond-false (x == c && y == d) Gone (Out x y) n
-ack-stays Gone c d n = refl
+    pub commit_touches : ListsOnly g m mid new entries → Commits g s old new records entries
+    commit_touches lists =
+        let next = lists_as g s m same.number mid new entries lists in
+        record {
+          others = λ n not_small not_index. next.others n not_index ∙ first.others n not_small;
+          any_moment = λ sharing ms lays. stays_come g t old mid new s.queue sharing ms first.any_moment recorded.held (next.any_moment sharing ms (will_join sharing ms lays));
+        }
 
-ack-goes : (c d : ℕ) → ack_one c d (Out c d) ≡ Gone
-ack-goes c d = cond-true (c == c && d == d) Gone (Out c d) (and_from _ _ (eq-eqb c c refl) (eq-eqb d d refl))
+    pub commit_has : ListsOnly g m mid new entries → HasListed g m mid new entries → HasCommitted g s old new records entries
+    commit_has lists listed =
+        let count : count_of m ≡ count_of s = ap (λ (i : Segment). index.count_of i) same.index in
+        let next = listed_as g s m same.number mid new entries count listed in
+        let small_was = (lists_as g s m same.number mid new entries lists).others (small_file s) (λ e. apart s.queue s.number s.queue s.number (sym e)) in
+        record {
+          kept_records = subst (λ (o : Option File). KeepsRecords (small_in (g.files old) s) (content_in o)) (sym small_was) recorded.kept_records;
+          new_records = subst (λ (o : Option File). HasRecords (end_of s) records (content_in o)) (sym small_was) recorded.new_records;
+          kept_entries = keeps_entries (index_in (g.files old) s) (index_in (g.files new) s) (entries_bytes entries) (next.content ∙ ap (λ (o : Option File). content_in o ++ entries_bytes entries) index_was);
+          new_entries = next.new_entries;
+          held = λ sharing ms lays lines h. next.held sharing ms (will_join sharing ms lays) lines (recorded.held sharing lines h);
+        }
 
-same-item : (f : Holder → Holder) (y : Item) → f y.holder ≡ y.holder → holding f y ≡ y
-same-item f y e = ap (λ (h : Holder). holding (λ _. h) y) e
-
--- what isn't out for the delivery stays
-others-stay : (ss : List (Option Item)) (held : List Held) (c d j : ℕ) (y : Item) → FindsOut ss held → (find c d held ≡ Some j → ⊥) → slot_at ss j ≡ Some y → holding (ack_one c d) y ≡ y
-others-stay ss held c d j y h n e =
-    let other : is_out c d y.holder ≡ false = elim (cases_Bool (is_out c d y.holder)) [
-      | inr f ↦ f
-      | inl t ↦ absurd (n (h.found j c d (ap (passes (out_for c d)) e ∙ t)))
-    ] in
-    same-item (ack_one c d) y (ack-stays y.holder c d other)
-
-pub acked-view : (ss : List (Option Item)) (ws : List ℕ) (held : List Held) (gone : List ℕ) (f p c d : ℕ) → IsIndexed ss ws held gone f → find c d held ≡ Some p
-    → alive (set ss p (held_by Gone (slot_at ss p))) ≡ ack c d (alive ss)
-acked-view ss ws held gone f p c d h out =
-    let o : IsOutAt ss p c d = out-at ss held p c d h.finds_out out in
-    let goes : ack_one c d o.item.holder ≡ Gone = ap (ack_one c d) o.holder ∙ ack-goes c d in
-    ap (λ (s : Option Item). alive (set ss p (held_by Gone s))) o.stands
-    ∙ ap (λ (h : Holder). alive (set ss p (Some (holding (λ _. h) o.item)))) (sym goes)
-    ∙ sym (alive-one (holding (ack_one c d)) ss p o.item o.stands (λ j y n e. others-stay ss held c d j y h.finds_out (λ q. (let t : Some j ≡ Some p = sym q ∙ out in n cc)) e))
-
-pub acked-none : (ss : List (Option Item)) (ws : List ℕ) (held : List Held) (gone : List ℕ) (f c d : ℕ) → IsIndexed ss ws held gone f → find c d held ≡ None → ack c d (alive ss) ≡ alive ss
-acked-none ss ws held gone f c d h none = alive-none (holding (ack_one c d)) ss (λ j y e. others-stay ss held c d j y h.finds_out (λ q. (let t : Some j ≡ None = sym q ∙ none in cc)) e)
-
--- ---- a delivery that goes back
-
-pub indexed-rising : (ss : List (Option Item)) (ws : List ℕ) (held : List Held) (gone : List ℕ) (f : ℕ) → IsIndexed ss ws held gone f → IsRising ws
-indexed-rising ss ws held gone f h = subst IsRising h.waiting_is (places-rise waits 0 ss)
-
-pub indexed-back : (ss : List (Option Item)) (ws now : List ℕ) (held after : List Held) (gone : List ℕ) (f p c d i : ℕ) → IsIndexed ss ws held gone f → find c d held ≡ Some p → Puts c d None held after
-    → IsPlace ws p i → now ≡ insert ws i p → IsIndexed (set ss p (held_by Waiting (slot_at ss p))) now after gone f
-indexed-back ss ws now held after gone f p c d i h out puts place e =
-    let o : IsOutAt ss p c d = out-at ss held p c d h.finds_out out in
-    let x : Item = o.item in
-    let s : Option Item = Some (holding (λ _. Waiting) x) in
-    let pl : IsPlace (places waits 0 ss) p i = subst (λ (xs : List ℕ). IsPlace xs p i) (sym h.waiting_is) place in
-    subst (λ (y : Option Item). IsIndexed (set ss p (held_by Waiting y)) now after gone f) (sym o.stands) (record {
-      waiting_is = insert-place waits 0 ss p s i p (omega arith) o.within refl (ap (passes waits) o.stands ∙ ap is_free o.holder) pl.within pl.low pl.high ∙ ap (λ xs. insert xs i p) h.waiting_is ∙ sym e;
-      finds_out = finds-released ss held after p c d s h.finds_out out (λ a b. refl) puts;
-      lists_gone = gone-same ss gone p s h.lists_gone o.within (ap (λ b. x.committed && b) (sym (ap is_gone o.holder)) ∙ sym (ap (passes settles) o.stands));
-      is_split = splits-same ss f p s h.is_split o.within (sym (ap (passes undecided) o.stands));
-    })
-
-back-goes : (c d : ℕ) → back_one c (Out c d) ≡ Waiting
-back-goes c d = cond-true (c == c) Waiting (Out c d) (eq-eqb c c refl)
-
-pub back-view : (ss : List (Option Item)) (ws : List ℕ) (held : List Held) (gone : List ℕ) (f p c d : ℕ) → IsIndexed ss ws held gone f → find c d held ≡ Some p
-    → give_back c (alive (set ss p (held_by Waiting (slot_at ss p)))) ≡ give_back c (alive ss)
-back-view ss ws held gone f p c d h out =
-    let o : IsOutAt ss p c d = out-at ss held p c d h.finds_out out in
-    let x : Item = o.item in
-    ap (λ (s : Option Item). give_back c (alive (set ss p (held_by Waiting s)))) o.stands
-    ∙ map-alive-set (holding (back_one c)) ss p x (holding (λ _. Waiting) x) o.stands (ap (λ (h : Holder). holding (λ _. h) x) (sym (ap (back_one c) o.holder ∙ back-goes c d)))
-
-pub back-count : (ss : List (Option Item)) (ws : List ℕ) (held : List Held) (gone : List ℕ) (f p c d : ℕ) → IsIndexed ss ws held gone f → find c d held ≡ Some p
-    → count_out c (alive (set ss p (held_by Waiting (slot_at ss p)))) + 1 ≡ count_out c (alive ss)
-back-count ss ws held gone f p c d h out =
-    let o : IsOutAt ss p c d = out-at ss held p c d h.finds_out out in
-    ap (λ (s : Option Item). count_out c (alive (set ss p (held_by Waiting s))) + 1) o.stands
-    ∙ count-fewer (out_to c) ss p (Some (holding (λ _. Waiting) o.item)) (ap (passes (out_to c)) o.stands ∙ ap (is_with c) o.holder ∙ eq-eqb c c refl) refl
-
-back-stays : (h : Holder) (c : ℕ) → ((d : ℕ) → is_out c d h ≡ false) → back_one c h ≡ h
-back-stays Waiting c n = refl
-back-stays (Out x y) c n = elim (cases_Bool (x == c)) [
-  | inr f ↦ cond-false (x == c) Waiting (Out x y) f
-  | inl t ↦ absurd (both_ways _ (n y) (and_from _ _ t (eq-eqb y y refl)))
-]
-back-stays Gone c n = refl
-
-pub back-none : (ss : List (Option Item)) (ws : List ℕ) (held : List Held) (gone : List ℕ) (f c : ℕ) → IsIndexed ss ws held gone f → ((d : ℕ) → find c d held ≡ None) → give_back c (alive ss) ≡ alive ss
-back-none ss ws held gone f c h none = alive-none (holding (back_one c)) ss (λ j y e. same-item (back_one c) y (back-stays y.holder c (λ d. elim (cases_Bool (is_out c d y.holder)) [
-  | inr f ↦ f
-  | inl t ↦ (let q : find c d held ≡ Some j = h.finds_out.found j c d (ap (passes (out_for c d)) e ∙ t) in let r : Some j ≡ None = sym q ∙ none d in cc)
-])))
-
--- where a search says that a place belongs
-pub place-searched : (xs : List ℕ) (p i : ℕ) (r : Result ℕ ℕ) → IsBinarySearchResult (λ y. nat_cmp y p) xs r → IsRising xs → MatchResult r (λ j. j ≡ i → IsPlace xs p i) (λ j. j ≡ i → IsPlace xs p i)
-place-searched xs p i (Result.Ok j) s rise = λ e. (
-    let f = searched xs p (Result.Ok j) s rise in
-    let at : get_or xs i 0 ≡ p = ap (λ k. get_or xs k 0) (sym e) ∙ f.1 in
-    let l : i < length xs = omega (arith, f.0) in
-    record { within = omega arith; low = λ k b. omega (arith, rise k i (omega arith) l, at); high = λ k a b. omega (arith, rise i k a b, at) })
-place-searched xs p i (Result.Err j) s rise = λ e. (
-    let f = searched xs p (Result.Err j) s rise in
-    record { within = omega (arith, f.0); low = λ k b. omega (arith, f.1 k (omega arith)); high = λ k a b. omega (arith, f.2 k (omega arith) b) })
-
--- ---- an entry that is passed
-
--- the first undecided message
-pub record IsHeadAt (ss : List (Option Item)) (f : ℕ) (x : Item) : Type 0 where
-  pub stands : slot_at ss f ≡ Some x
-  pub undecided_is : x.committed ≡ false
-  pub within : f < length ss
-
-pub indexed-kept : (ss : List (Option Item)) (ws : List ℕ) (held : List Held) (gone : List ℕ) (f : ℕ) (x : Item) → IsIndexed ss ws held gone f → IsHeadAt ss f x → is_gone x.holder ≡ false
-    → IsIndexed (set ss f (Some (decide x))) ws held gone (f + 1)
-indexed-kept ss ws held gone f x h a n = record {
-  waiting_is = places-set waits 0 ss f (Some (decide x)) (sym (ap (passes waits) a.stands)) ∙ h.waiting_is;
-  finds_out = finds-same ss held f (Some (decide x)) h.finds_out a.within (λ c d. sym (ap (passes (out_for c d)) a.stands));
-  lists_gone = gone-same ss gone f (Some (decide x)) h.lists_gone a.within (n ∙ sym (ap (passes settles) a.stands ∙ and_left x.committed (is_gone x.holder) a.undecided_is));
-  is_split = splits-more ss f (Some (decide x)) h.is_split a.within refl;
-}
-
-pub indexed-left : (ss : List (Option Item)) (ws : List ℕ) (held : List Held) (gone : List ℕ) (f : ℕ) (x : Item) → IsIndexed ss ws held gone f → IsHeadAt ss f x → is_gone x.holder ≡ true
-    → IsIndexed (set ss f None) ws held gone (f + 1)
-indexed-left ss ws held gone f x h a g = record {
-  waiting_is = places-set waits 0 ss f None (sym (ap (passes waits) a.stands ∙ gone-not-free x.holder g)) ∙ h.waiting_is;
-  finds_out = finds-same ss held f None h.finds_out a.within (λ c d. sym (ap (passes (out_for c d)) a.stands ∙ gone-not-out x.holder c d g));
-  lists_gone = gone-same ss gone f None h.lists_gone a.within (sym (ap (passes settles) a.stands ∙ and_left x.committed (is_gone x.holder) a.undecided_is));
-  is_split = splits-more ss f None h.is_split a.within refl;
-}
-
-pub indexed-skipped : (ss : List (Option Item)) (ws : List ℕ) (held after : List Held) (gone : List ℕ) (f c d : ℕ) (x : Item) → IsIndexed ss ws held gone f → IsHeadAt ss f x
-    → x.holder ≡ Out c d → find c d held ≡ Some f → Puts c d None held after → IsIndexed (set ss f None) ws after gone (f + 1)
-indexed-skipped ss ws held after gone f c d x h a e out puts = record {
-  waiting_is = places-set waits 0 ss f None (sym (ap (passes waits) a.stands ∙ ap is_free e)) ∙ h.waiting_is;
-  finds_out = finds-released ss held after f c d None h.finds_out out (λ a b. refl) puts;
-  lists_gone = gone-same ss gone f None h.lists_gone a.within (sym (ap (passes settles) a.stands ∙ and_left x.committed (is_gone x.holder) a.undecided_is));
-  is_split = splits-more ss f None h.is_split a.within refl;
-}
-
--- ---- a message that is settled
-
--- the message at the last place that was noted
-pub record IsSettling (ss : List (Option Item)) (k : ℕ) : Type 0 where
-  pub item : Item
-  pub stands : slot_at ss k ≡ Some item
-  pub settling : settles item ≡ true
-  pub within : k < length ss
-
-pub settling-at : (ss : List (Option Item)) (ws : List ℕ) (held : List Held) (gone rest : List ℕ) (f k : ℕ) → IsIndexed ss ws held gone f → gone ≡ rest ++ k ∷ [] → IsSettling ss k
-settling-at ss ws held gone rest f k h e =
-    let t : passes settles (slot_at ss k) ≡ true = popped-settles ss rest k (subst (λ (xs : List ℕ). ListsGone ss xs) e h.lists_gone) in
-    let p : IsPassing settles (slot_at ss k) = passing settles (slot_at ss k) t in
-    record { item = p.item; stands = p.stands; settling = p.passing; within = passes-within settles ss k t }
-
-pub indexed-settled : (ss : List (Option Item)) (ws : List ℕ) (held : List Held) (gone rest : List ℕ) (f k : ℕ) → IsIndexed ss ws held gone f → gone ≡ rest ++ k ∷ [] → IsIndexed (set ss k None) ws held rest f
-indexed-settled ss ws held gone rest f k h e =
-    let s : IsSettling ss k = settling-at ss ws held gone rest f k h e in
-    let x : Item = s.item in
-    let parts = and_parts x.committed (is_gone x.holder) s.settling in
+-- so many entries more, once the index is made
+pub more_next : (s m n : QueueSegment) (more : ℕ) → SameSmall s m → HasIndex s m → SameSmall m n → IsMore m n more 0 → IsMore s n more 0
+more_next s m n more same has next grown =
+    let was : end_of m ≡ end_of s = ap (λ (st : SmallStore). store.end_of st) same.small in
     record {
-      waiting_is = places-set waits 0 ss k None (sym (ap (passes waits) s.stands ∙ gone-not-free x.holder parts.1)) ∙ h.waiting_is;
-      finds_out = finds-same ss held k None h.finds_out s.within (λ c d. sym (ap (passes (out_for c d)) s.stands ∙ gone-not-out x.holder c d parts.1));
-      lists_gone = gone-popped ss gone rest k None h.lists_gone e refl;
-      is_split = splits-same ss f k None h.is_split s.within (sym (ap (passes undecided) s.stands ∙ ap not parts.0));
+      is_open = grown.is_open;
+      count = grown.count ∙ ap (λ (k : ℕ). k + more) has.count;
+      present = subst (λ (ps : List ℕ). (k : ℕ) → Contains (present_of n) k ↔ (Contains ps k ⊎ ((count_of s ≤ k) × (k < count_of n)))) has.present
+          (subst (λ (c : ℕ). (k : ℕ) → Contains (present_of n) k ↔ (Contains (present_of m) k ⊎ ((c ≤ k) × (k < count_of n)))) has.count grown.present);
+      end = grown.end ∙ ap (λ (k : ℕ). k + 0) was;
+      longer = subst (λ (st : SmallStore). store.len_of st ≤ small_len n) same.small grown.longer;
+      room = grown.room;
+      unused = λ none. grown.unused none ∙ same.small;
     }
 
--- ---- what is read
-
--- a list whose first element was read
-pub headed : (xs : List ℕ) (x : ℕ) → slice_get xs 0 ≡ Some x → xs ≡ x ∷ drop 1 xs
-headed [] x e = cc
-headed (y ∷ ys) x e = let same : y ≡ x = cc in ap (λ z. z ∷ ys) same
-
-pub headless : (xs : List ℕ) → slice_get xs 0 ≡ None → length xs ≡ 0
-headless [] e = refl
-headless (y ∷ ys) e = cc
-
-pub first-get : (ss : List (Option Item)) (p : ℕ) (rest : List ℕ) → IsFirstPlace 0 ss p rest → slice_get (waiting_items (alive ss)) 0 ≡ slot_at ss p
-first-get ss p rest f = ap (λ (is : List Item). slice_get is 0) f.first ∙ sym f.stands
-
-pub waiting-count : (ss : List (Option Item)) (ws : List ℕ) (held : List Held) (gone : List ℕ) (f : ℕ) → IsIndexed ss ws held gone f → length (waiting_items (alive ss)) ≡ length ws
-waiting-count ss ws held gone f h = sym (length-places waits 0 ss) ∙ ap length h.waiting_is
-
-get-none : (is : List Item) → length is ≡ 0 → slice_get is 0 ≡ None
-get-none [] e = refl
-get-none (i ∷ is) e = absurd (omega arith)
-
-pub none-get : (ss : List (Option Item)) (ws : List ℕ) (held : List Held) (gone : List ℕ) (f : ℕ) → IsIndexed ss ws held gone f → length ws ≡ 0 → slice_get (waiting_items (alive ss)) 0 ≡ None
-none-get ss ws held gone f h e = get-none (waiting_items (alive ss)) (waiting-count ss ws held gone f h ∙ e)
-
--- who isn't out among the messages isn't out at all
-out-listed : (ss : List (Option Item)) (k c d : ℕ) → passes (out_for c d) (slot_at ss k) ≡ true → is_out_to c d (alive ss) ≡ true
-out-listed [] k c d h = cc
-out-listed (None ∷ ss) zero c d h = cc
-out-listed (Some i ∷ ss) zero c d h = or_left _ _ h
-out-listed (None ∷ ss) (suc k) c d h = out-listed ss k c d h
-out-listed (Some i ∷ ss) (suc k) c d h = or_right _ _ (out-listed ss k c d h)
-
-pub fresh-out : (ss : List (Option Item)) (held : List Held) (c d : ℕ) → FindsOut ss held → is_out_to c d (alive ss) ≡ false → find c d held ≡ None
-fresh-out ss held c d h free =
-    (elim (find c d held) as (λ (o : Option ℕ). find c d held ≡ o → o ≡ None) [
-      | None ↦ λ _. refl
-      | Some k ↦ λ e. absurd (both_ways _ free (out-listed ss k c d (h.there c d k e)))
-    ]) refl
-
--- ---- room
-
--- no more is asked of as much room or more
-pub room-enough : {s w o g r cs cw co cg : ℕ} → HasRoom s w o g r cs cw co cg → (s' w' o' g' r' cs' cw' co' cg' : ℕ)
-    → s' + r' ≤ s + r → w' + o' + r' ≤ w + o + r → w' + o' + g' + r' ≤ w + o + g + r → cs ≤ cs' → cw ≤ cw' → co ≤ co' → cg ≤ cg'
-    → HasRoom s' w' o' g' r' cs' cw' co' cg'
-room-enough h s' w' o' g' r' cs' cw' co' cg' a b c d e f i = record {
-  slots_fit = omega (arith, h.slots_fit);
-  waiting_fits = omega (arith, h.waiting_fits);
-  out_fits = omega (arith, h.out_fits);
-  gone_fits = omega (arith, h.gone_fits);
-}
-
-pub length-noted : (b : Bool) (gone : List ℕ) (p : ℕ) → length (cond b (gone ++ p ∷ []) gone) ≤ length gone + 1
-length-noted true gone p = omega (arith, length_push gone p)
-length-noted false gone p = omega arith
+-- so many entries and bytes more, once the records have joined
+pub more_all : (s m n : QueueSegment) (more bytes : ℕ) → SameIndex s m → IsLonger s m bytes → SameSmall m n → IsMore m n more 0 → IsMore s n more bytes
+more_all s m n more bytes same longer next grown =
+    let count : count_of m ≡ count_of s = ap (λ (i : Segment). index.count_of i) same.index in
+    let present : present_of m ≡ present_of s = ap (λ (i : Segment). index.present_of i) same.index in
+    let end : end_of n ≡ end_of m = ap (λ (st : SmallStore). store.end_of st) next.small in
+    let len = ap (λ (st : SmallStore). store.len_of st) next.small in
+    record {
+      is_open = grown.is_open;
+      count = grown.count ∙ ap (λ (k : ℕ). k + more) count;
+      present = subst (λ (ps : List ℕ). (k : ℕ) → Contains (present_of n) k ↔ (Contains ps k ⊎ ((count_of s ≤ k) × (k < count_of n)))) present
+          (subst (λ (c : ℕ). (k : ℕ) → Contains (present_of n) k ↔ (Contains (present_of m) k ⊎ ((c ≤ k) × (k < count_of n)))) count grown.present);
+      end = end ∙ longer.end;
+      longer = subst (λ (l : ℕ). small_len s ≤ l) (sym len) longer.longer;
+      room = λ some. let r = longer.room some in omega (arith, r, end, len);
+      unused = λ none. next.small ∙ longer.unused none;
+    }

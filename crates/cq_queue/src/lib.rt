@@ -1,15 +1,13 @@
-//! A queue in memory: its messages in order, and who has each.
+//! The files of one queue: its segments, each an index and a small store, on a disk.
 #![tactic(auto)]
 
-mod item;
-mod line;
-mod outs;
-mod queue;
-mod slots;
-mod tree;
+mod commit;
+mod leaving;
+mod segment;
+mod segments;
 
-pub use item::{First, Holder, Item, Passed};
-pub use queue::QueueCore;
+pub use segment::QueueSegment;
+pub use segments::Segments;
 
 #[cfg(test)]
 mod tests;

@@ -1,161 +1,157 @@
-// Queues in memory, call by call.
-use crate::{First, Holder, Passed, QueueCore};
-use cq_bytes::Body;
-use cq_entry::EntryKind;
-use std::alloc::AllocError;
-use std::process::Abort;
+// Segments of a queue on the disk in memory.
+ghost use Rattle.std.specs.Prelude.{◌≡◌, ◌<◌, ◌+◌, ◌^◌, ℕ, [], OnOk};
+ghost use Rattle.cq_queue.specs.Lists.{AreAt, AreBelow};
+ghost use Rattle.cq_queue.specs.Calls.{list_of, queue_of};
+
+use crate::Segments;
+use cq_disk::{Disk, Kind, Name};
+use cq_entry::{Entry, EntryKind};
+use cq_memdisk::MemDisk;
+use cq_small::SmallBatch;
+use std::alloc::Global;
 use std::test::Fail;
 
-/// Adds so many large messages, with the ids from a number on.
-fn add(core: &mut QueueCore, from: u32, count: u32) -> Result<(), AllocError> {
-    for step in 0..count {
-        core.reserve()?;
-        core.publish(u128::from(from) + u128::from(step), None, 5000);
+const QUEUE: u32 = 7;
+
+/// How many entries a segment gets at most.
+const MOST: u32 = 16;
+
+const BODY: &[u8] = b"a body";
+
+/// What a test came upon doesn't fit.
+#[derive(Debug, Drop)]
+struct Unfit;
+
+/// Adds a small message.
+fn put<D: Disk>(segments: &mut Segments, disk: &mut D, alloc: Global, id: u128) -> Result<(), Fail>
+    requires id { 0 < id }
+    requires numbers { AreBelow (2 ^ 63) (list_of segments.old) }
+    requires at { D.tells → AreAt (queue_of segments.old) (list_of segments.old) (D.files disk.old) }
+    ensures numbers { OnOk result
+        ((n : ℕ) → AreBelow n (list_of segments.old) → AreBelow (n + 1) (list_of segments.new)) }
+    ensures at { OnOk result (D.tells → AreAt (queue_of segments.new) (list_of segments.new) (D.files disk.new)) }
+{
+    let segment = segments.take(alloc, 1)?;
+    if segment.count() >= MOST {
+        return Err(Fail::from(Unfit));
     }
-    Ok(())
-}
-
-/// The id that a client is handed, where something waits and the delivery isn't out.
-fn get(core: &mut QueueCore, client: u32, delivery: u32) -> Option<u128> {
-    if core.waiting() == 0 || core.is_out(client, delivery) {
-        return None;
-    }
-    let first = core.first_waiting()?;
-    core.deliver(client, delivery);
-    Some(first.id)
-}
-
-/// Passes the first undecided entry, where there is one.
-fn pass(core: &mut QueueCore) -> Option<Passed> {
-    core.undecided(0)?;
-    Some(core.pass(false))
-}
-
-/// The ids that wait, as a client gets them one after another.
-fn get_all(rt: &impl Abort, core: &mut QueueCore, expected: &[u128]) {
-    let mut delivery: u32 = 1_000_000;
-    for id in expected {
-        assert_eq!(rt; get(core, 60, delivery), Some(*id));
-        delivery = delivery.wrapping_add(1);
-    }
-    assert_eq!(rt; core.waiting(), 0);
-    assert_eq!(rt; core.first_waiting(), None);
-}
-
-#[test]
-fn what_an_ended_client_had_goes_back_to_its_place(rt: HostRuntime) -> Result<(), Fail> {
-    let mut core = QueueCore::new(rt.alloc());
-    add(&mut core, 1, 5)?;
-    for delivery in 0..4 {
-        assert_eq!(rt; get(&mut core, 7, delivery), Some(u128::from(delivery) + 1));
-    }
-    assert_eq!(rt; core.waiting(), 1);
-    core.acked(7, 0);
-    core.acked(7, 2);
-    core.acked(8, 1);
-    assert!(rt; core.is_out(7, 1) && !core.is_out(7, 2));
-    core.give_back(8);
-    assert_eq!(rt; core.waiting(), 1);
-    core.give_back(7);
-    assert_eq!(rt; core.waiting(), 3);
-    get_all(&rt, &mut core, &[2, 4, 5]);
-    Ok(())
-}
-
-#[test]
-fn entries_are_passed_and_settled(rt: HostRuntime) -> Result<(), Fail> {
-    let mut core = QueueCore::new(rt.alloc());
-    core.reserve()?;
-    core.publish(9, Some(Body::copy(rt.alloc(), b"hi")?), 2);
-    let small = First {
-        id: 9,
+    let place = segment.base();
+    let mut records = SmallBatch::new(alloc);
+    records.push(BODY)?;
+    let entry = Entry {
         kind: EntryKind::Small,
-        len: 2,
+        len: BODY.len() as u32,
+        id,
+        place,
     };
-    assert_eq!(rt; core.first_waiting(), Some(small));
-    let held = core.first_item().and_then(|item| item.body.as_ref());
-    assert_eq!(rt; held.map(|body| body.bytes().len()), Some(2));
-    add(&mut core, 10, 3)?;
-    assert_eq!(rt; core.undecided(3), Some(12));
-    assert_eq!(rt; core.undecided(4), None);
-    for delivery in 0..3 {
-        assert_eq!(rt; get(&mut core, 1, delivery), Some(u128::from(delivery) + 9));
+    segments.add(disk, segment, &records, &[entry])?;
+    Ok(())
+}
+
+/// Adds a shared message, which has no record in the small store.
+fn put_shared<D: Disk>(segments: &mut Segments, disk: &mut D, alloc: Global) -> Result<(), Fail>
+    requires numbers { AreBelow (2 ^ 63) (list_of segments.old) }
+    requires at { D.tells → AreAt (queue_of segments.old) (list_of segments.old) (D.files disk.old) }
+{
+    let segment = segments.take(alloc, 1)?;
+    if segment.count() >= MOST {
+        return Err(Fail::from(Unfit));
     }
-    core.acked(1, 1);
-    assert_eq!(rt; pass(&mut core), Some(Passed { id: 9, kept: true }));
-    assert_eq!(rt;
-        pass(&mut core),
-        Some(Passed {
-            id: 10,
-            kept: false
-        })
-    );
-    assert_eq!(rt; pass(&mut core), Some(Passed { id: 11, kept: true }));
-    core.acked(1, 0);
-    assert_eq!(rt; core.settling(), 1);
-    assert_eq!(rt; core.settle()?.as_slice(), [9u128].as_slice());
-    assert_eq!(rt; core.settling(), 0);
-    assert_eq!(rt; core.settle()?.len(), 0);
-    core.give_back(1);
-    get_all(&rt, &mut core, &[11, 12]);
+    let entry = Entry {
+        kind: EntryKind::Shared,
+        len: 5000,
+        id: 1,
+        place: 0,
+    };
+    segments.add(disk, segment, &SmallBatch::new(alloc), &[entry])?;
+    Ok(())
+}
+
+/// Marks all present entries of the first segment as gone, and removes it.
+fn take_away<D: Disk>(segments: &mut Segments, disk: &mut D, alloc: Global) -> Result<(), Fail>
+    requires at { D.tells → AreAt (queue_of segments.old) (list_of segments.old) (D.files disk.old) }
+{
+    let mut at = Vec::new(alloc);
+    let Some(segment) = segments.list.first() else {
+        return Err(Fail::from(Unfit));
+    };
+    at.extend_from_slice(segment.present())?;
+    if at.is_empty() {
+        return Err(Fail::from(Unfit));
+    }
+    segments.gone(disk, 0, &at)?;
+    let Some(index) = segments.finished() else {
+        return Err(Fail::from(Unfit));
+    };
+    segments.remove(disk, index)?;
+    Ok(())
+}
+
+/// So many messages, each added by a commit of its own.
+fn put_all<D: Disk>(
+    segments: &mut Segments,
+    disk: &mut D,
+    alloc: Global,
+    count: u32,
+) -> Result<(), Fail>
+    requires none { list_of segments.old ≡ [] }
+    requires at { D.tells → AreAt (queue_of segments.old) [] (D.files disk.old) }
+    ensures at { OnOk result (D.tells → AreAt (queue_of segments.new) (list_of segments.new) (D.files disk.new)) }
+{
+    for number in 0..count {
+        put(segments, disk, alloc, number as u128 + 1)?;
+    }
+    Ok(())
+}
+
+/// Whether the disk has a file of the first segment.
+fn has_file(disk: &MemDisk, kind: Kind) -> bool {
+    let name = Name {
+        kind,
+        queue: QUEUE,
+        number: 0,
+    };
+    disk.bytes(name).is_some()
+}
+
+#[test]
+fn sixteen_messages_come_and_go(rt: HostRuntime) -> Result<(), Fail> {
+    let alloc = rt.alloc();
+    let mut disk = MemDisk::new(alloc, Vec::new(alloc));
+    let mut segments = Segments::new(alloc, QUEUE, MOST);
+    put_all(&mut segments, &mut disk, alloc, 16)?;
+    // The first commit makes both files and writes their headers: sixteen calls; each later one has ten.
+    assert_eq!(rt; disk.moment(), 166);
+    assert_eq!(rt; segments.list.len(), 1);
+    assert_eq!(rt; segments.finished(), None);
+    assert!(rt; has_file(&disk, Kind::Index) && has_file(&disk, Kind::Small));
+    take_away(&mut segments, &mut disk, alloc)?;
+    // Sixteen statuses, a sync and two removals.
+    assert_eq!(rt; disk.moment(), 185);
+    assert_eq!(rt; segments.list.len(), 0);
+    assert!(rt; !has_file(&disk, Kind::Index) && !has_file(&disk, Kind::Small));
     Ok(())
 }
 
 #[test]
-fn one_that_is_out_may_be_skipped(rt: HostRuntime) -> Result<(), Fail> {
-    let mut core = QueueCore::new(rt.alloc());
-    core.reserve()?;
-    core.publish(5, None, 5000);
-    core.deliver(3, 8);
-    assert_eq!(rt;
-        core.holder(5),
-        Holder::Out {
-            client: 3,
-            delivery: 8
-        }
-    );
-    assert_eq!(rt; core.pass(true), Passed { id: 5, kept: false });
-    assert!(rt; !core.is_out(3, 8));
-    core.acked(3, 8);
-    core.give_back(3);
-    assert_eq!(rt; core.waiting(), 0);
-    assert_eq!(rt; core.settling(), 0);
+fn a_hundred_messages_take_seven_segments(rt: HostRuntime) -> Result<(), Fail> {
+    let alloc = rt.alloc();
+    let mut disk = MemDisk::new(alloc, Vec::new(alloc));
+    let mut segments = Segments::new(alloc, QUEUE, MOST);
+    put_all(&mut segments, &mut disk, alloc, 100)?;
+    assert_eq!(rt; segments.list.len(), 7);
+    assert_eq!(rt; segments.place_of(6), Some(6));
+    assert_eq!(rt; segments.place_of(7), None);
     Ok(())
 }
 
 #[test]
-fn closing_up_keeps_what_stands(rt: HostRuntime) -> Result<(), Fail> {
-    let mut core = QueueCore::new(rt.alloc());
-    add(&mut core, 1, 400)?;
-    // Every message is handed out, to one of four clients; all but every eighth is acknowledged.
-    for delivery in 0..400u32 {
-        assert_eq!(rt;
-            get(&mut core, delivery % 4, delivery),
-            Some(u128::from(delivery) + 1)
-        );
-    }
-    for _ in 0..200 {
-        assert!(rt; pass(&mut core).is_some_and(|passed| passed.kept));
-    }
-    for delivery in 0..400u32 {
-        if delivery % 8 != 5 {
-            core.acked(delivery % 4, delivery);
-        }
-    }
-    assert_eq!(rt; core.settle()?.len(), 175);
-    for _ in 0..200 {
-        assert!(rt; pass(&mut core).is_some());
-    }
-    assert_eq!(rt; core.undecided(0), None);
-    assert!(rt; core.is_out(1, 5) && core.is_out(1, 397) && !core.is_out(1, 1));
-    core.acked(1, 13);
-    core.give_back(1);
-    assert_eq!(rt; core.settle()?.as_slice(), [14u128].as_slice());
-    assert_eq!(rt; core.waiting(), 49);
-    for step in 0..49u32 {
-        let place = if step == 0 { 0 } else { step + 1 };
-        assert_eq!(rt; get(&mut core, 9, 0), Some(u128::from(place * 8 + 6)));
-        core.acked(9, 0);
-    }
+fn a_shared_message_makes_no_small_store(rt: HostRuntime) -> Result<(), Fail> {
+    let alloc = rt.alloc();
+    let mut disk = MemDisk::new(alloc, Vec::new(alloc));
+    let mut segments = Segments::new(alloc, QUEUE, MOST);
+    put_shared(&mut segments, &mut disk, alloc)?;
+    assert_eq!(rt; disk.moment(), 8);
+    assert!(rt; has_file(&disk, Kind::Index) && !has_file(&disk, Kind::Small));
     Ok(())
 }

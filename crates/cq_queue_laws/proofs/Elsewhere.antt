@@ -9,10 +9,10 @@ use Rattle.cq_journal.specs.declared.event.Entry.{Entry}
 use Rattle.cq_journal.specs.History.{Delivery, open_deliveries, is_delivery, acked}
 use Rattle.cq_journal.specs.Legal.{Legal}
 use Rattle.cq_journal.proofs.More.{is_open_for, one-queue, keys-open}
-use Rattle.cq_queue.specs.declared.item.Item.{Item}
-use Rattle.cq_queue.specs.declared.item.Holder.{Holder}
-use Rattle.cq_queue.specs.declared.item.Holder.TheVariants.{Waiting, Out, Gone}
-use Rattle.cq_queue.specs.Items.{is_out, is_with, ack_one, back_one}
+use Rattle.cq_items.specs.declared.item.Item.{Item}
+use Rattle.cq_items.specs.declared.item.Holder.{Holder}
+use Rattle.cq_items.specs.declared.item.Holder.TheVariants.{Waiting, Out, Gone}
+use Rattle.cq_items.specs.Items.{is_out, is_with, ack_one, back_one}
 use Rattle.cq_queue_laws.specs.Follows.{outside, standing, Follows}
 use Rattle.cq_queue_laws.proofs.Standing.{standing-acked, standing-dropped, standing-ended}
 use Rattle.cq_queue_laws.proofs.Keeps.{keeps-same}

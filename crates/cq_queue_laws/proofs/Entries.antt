@@ -10,9 +10,9 @@ use Rattle.cq_journal.specs.declared.event.Message.{Message}
 use Rattle.cq_journal.specs.declared.lines.Line.{Line}
 use Rattle.cq_journal.specs.History.{adds, opened_in, settled}
 use Rattle.cq_journal.specs.Legal.{Allowed, Legal}
-use Rattle.cq_queue.specs.declared.item.Item.{Item}
-use Rattle.cq_queue.specs.declared.item.Holder.TheVariants.{Waiting}
-use Rattle.cq_queue.specs.Items.{hand_out}
+use Rattle.cq_items.specs.declared.item.Item.{Item}
+use Rattle.cq_items.specs.declared.item.Holder.TheVariants.{Waiting}
+use Rattle.cq_items.specs.Items.{hand_out}
 use Rattle.cq_queue_laws.specs.Follows.{bare, stands, is_unsettled, Follows}
 use Rattle.cq_queue_laws.specs.Laws.{items_after}
 use Rattle.cq_queue_laws.proofs.Keeps.{keeps-acked, keeps-dropped, keeps-ended, keeps-quiet, keeps-delivered, keeps-delivered-other, keeps-settled}

@@ -15,10 +15,10 @@ use Rattle.cq_journal.specs.Legal.{brings, has, IsFirst, Allowed, Legal}
 use Rattle.cq_journal.proofs.More.{eqb-sym, settled-removed}
 use Rattle.cq_journal.proofs.Laws.{acked-unbrought, out-unbrought, distinct-line}
 use Rattle.cq_journal.proofs.Lists.{any-filter, filter-congr, filter-refine, distinct-filter}
-use Rattle.cq_queue.specs.declared.item.Item.{Item}
-use Rattle.cq_queue.specs.declared.item.Holder.{Holder}
-use Rattle.cq_queue.specs.declared.item.Holder.TheVariants.{Waiting, Out, Gone}
-use Rattle.cq_queue.specs.Items.{is_free, ack_one, back_one, holding, new_item, hand_out, ack, give_back, waiting_items}
+use Rattle.cq_items.specs.declared.item.Item.{Item}
+use Rattle.cq_items.specs.declared.item.Holder.{Holder}
+use Rattle.cq_items.specs.declared.item.Holder.TheVariants.{Waiting, Out, Gone}
+use Rattle.cq_items.specs.Items.{is_free, ack_one, back_one, holding, new_item, hand_out, ack, give_back, waiting_items}
 use Rattle.cq_queue_laws.specs.Follows.{outside, standing, Whereabouts, bare, stands, is_unsettled, Follows}
 use Rattle.cq_queue_laws.proofs.Standing.{standing-waits, outside-none, standing-acked, standing-dropped, standing-ended, standing-delivered, standing-quiet}
 

@@ -12,9 +12,9 @@ use Rattle.cq_journal.specs.History.{Delivery, line, open_after, open_deliveries
 use Rattle.cq_journal.specs.Legal.{Allowed, Legal}
 use Rattle.cq_journal.proofs.More.{out-split, apart-open, first-waits}
 use Rattle.cq_journal.proofs.Lists.{any-filter}
-use Rattle.cq_queue.specs.declared.item.Holder.{Holder}
-use Rattle.cq_queue.specs.declared.item.Holder.TheVariants.{Waiting, Out, Gone}
-use Rattle.cq_queue.specs.Items.{is_free, ack_one, back_one}
+use Rattle.cq_items.specs.declared.item.Holder.{Holder}
+use Rattle.cq_items.specs.declared.item.Holder.TheVariants.{Waiting, Out, Gone}
+use Rattle.cq_items.specs.Items.{is_free, ack_one, back_one}
 use Rattle.cq_queue_laws.specs.Follows.{outside, standing}
 
 -- ---- the open deliveries

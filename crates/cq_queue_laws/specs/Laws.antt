@@ -9,11 +9,12 @@ use Rattle.cq_journal.specs.declared.event.Message.{Message}
 use Rattle.cq_journal.specs.declared.lines.Line.{Line}
 use Rattle.cq_journal.specs.History.{adds, opened_in, line, open_deliveries, is_delivery, waiting, has_id}
 use Rattle.cq_journal.specs.Legal.{delivered, Legal}
-use Rattle.cq_queue.specs.declared.item.Item.{Item}
-use Rattle.cq_queue.specs.declared.item.Passed.{Passed}
-use Rattle.cq_queue.specs.declared.item.Holder.TheVariants.{Waiting, Out}
-use Rattle.cq_queue.specs.Items.{new_item, hand_out, ack, give_back, waiting_items, undecided_items, unsettled_items, is_out_to, has_item, pass_first, IsHeldBy, IsPassed}
-use Rattle.cq_queue.specs.Queue.{AreOutOnce, IsSettled}
+use Rattle.cq_items.specs.declared.item.Item.{Item}
+use Rattle.cq_items.specs.declared.item.Stand.{Stand}
+use Rattle.cq_items.specs.declared.item.Passed.{Passed}
+use Rattle.cq_items.specs.declared.item.Holder.TheVariants.{Waiting, Out}
+use Rattle.cq_items.specs.Items.{new_item, hand_out, ack, give_back, waiting_items, undecided_items, settling_ids, others_items, is_out_to, has_item, pass_first, IsHeldBy, IsPassed}
+use Rattle.cq_items.specs.Queue.{AreOutOnce}
 use Rattle.cq_queue_laws.specs.Follows.{bare, Follows}
 use Rattle.cq_queue_laws.specs.Refs.{refs}
 
@@ -58,13 +59,19 @@ pub record OthersStay : Type 0 where
 -- a passed entry that is kept is no entry of the history; one that is skipped is settled, and where its message was out
 -- it doesn't matter whether the drop was noted first
 pub record PassingKeeps : Type 0 where
-  pub passed : (items : List Item) (past : List Entry) (stamp q : ℕ) (skip : Bool) (r : Passed) → IsPassed skip r (undecided_items items) → AreOnce items → Follows items past q
-      → Follows (pass_first skip items) (if r.kept then past else record { event = Settled q r.id; stamp = stamp } ∷ past) q
-  pub dropped_first : (items : List Item) (c d : ℕ) → AreOutOnce items → IsHeldBy (Out c d) (undecided_items items) → pass_first true (ack c d items) ≡ pass_first true items
+  pub passed : (items : List Item) (past : List Entry) (stamp q : ℕ) (skip : Bool) (st : Stand) (r : Passed) → IsPassed skip r (undecided_items items) → AreOnce items → Follows items past q
+      → Follows (pass_first skip st items) (if r.kept then past else record { event = Settled q r.id; stamp = stamp } ∷ past) q
+  pub dropped_first : (items : List Item) (st : Stand) (c d : ℕ) → AreOutOnce items → IsHeldBy (Out c d) (undecided_items items) → pass_first true st (ack c d items) ≡ pass_first true st items
 
--- what is settled is gone by its ids
-abbrev pub SettlingFilters : Type 0
-SettlingFilters = (ids : List ℕ) (old new : List Item) → AreOnce old → IsSettled ids old new → new ≡ filter (λ i. not (contains ids i.id)) old
+-- a history with one more entry for each of these ids, in order
+abbrev pub with_settled : List ℕ → ℕ → ℕ → List Entry → List Entry
+with_settled [] stamp q past = past
+with_settled (id ∷ ids) stamp q past = with_settled ids stamp q (record { event = Settled q id; stamp = stamp } ∷ past)
+
+-- what settles is gone by its ids, and is settled id by id
+pub record SettlingKeeps : Type 0 where
+  pub filters : (items : List Item) → AreOnce items → others_items items ≡ filter (λ i. not (contains (settling_ids items) i.id)) items
+  pub settled : (items : List Item) (past : List Entry) (stamp q : ℕ) → AreOnce items → Follows items past q → Follows (others_items items) (with_settled (settling_ids items) stamp q past) q
 
 -- what a queue tells is what the history tells
 pub record ItemsTell : Type 0 where
@@ -84,8 +91,8 @@ pub record RefsCount : Type 0 where
 -- the undecided messages: a publish adds one at the end, passing takes the first, nothing else changes their ids
 pub record UndecidedChanges : Type 0 where
   pub by_publish : (items : List Item) (id len : ℕ) (held : Option (List ℕ)) → undecided_items (items ++ new_item id held len ∷ []) ≡ undecided_items items ++ new_item id held len ∷ []
-  pub by_passing : (items : List Item) (skip : Bool) → undecided_items (pass_first skip items) ≡ drop 1 (undecided_items items)
-  pub by_settling : (items : List Item) → undecided_items (unsettled_items items) ≡ undecided_items items
+  pub by_passing : (items : List Item) (skip : Bool) (st : Stand) → undecided_items (pass_first skip st items) ≡ drop 1 (undecided_items items)
+  pub by_settling : (items : List Item) → undecided_items (others_items items) ≡ undecided_items items
   pub by_delivery : (items : List Item) (c d : ℕ) → map (λ i. i.id) (undecided_items (hand_out c d items)) ≡ map (λ i. i.id) (undecided_items items)
   pub by_ack : (items : List Item) (c d : ℕ) → map (λ i. i.id) (undecided_items (ack c d items)) ≡ map (λ i. i.id) (undecided_items items)
   pub by_end : (items : List Item) (c : ℕ) → map (λ i. i.id) (undecided_items (give_back c items)) ≡ map (λ i. i.id) (undecided_items items)

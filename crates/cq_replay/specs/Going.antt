@@ -5,8 +5,8 @@ use Rattle.cq_disk.specs.declared.disk.Disk.{Ghosts}
 use Rattle.cq_disk.specs.Call.{Image}
 use Rattle.cq_disk.specs.Files.{IsImage}
 use Rattle.cq_disk.specs.Run.{Ran, RanOn}
-use Rattle.cq_held.specs.Held.{as_read, Held}
-use Rattle.cq_held.specs.Steady.{Agrees, Steady}
+use Rattle.cq_folder.specs.Held.{as_read, Held}
+use Rattle.cq_folder.specs.Steady.{Agrees, Steady}
 use Rattle.cq_index.specs.Places.{index_name}
 use Rattle.cq_inbox.specs.Requests.{publishes}
 use Rattle.cq_inbox.specs.declared.request.Request.{Request}

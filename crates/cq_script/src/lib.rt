@@ -11,6 +11,3 @@ mod texts;
 
 pub use reader::read_script;
 pub use script::{Halt, Script, ScriptError, StepWord, Steps, Streams, Why};
-
-#[cfg(test)]
-mod tests;

@@ -1,11 +1,12 @@
 use Rattle.cq_queue_laws.proofs.Keeps.{keeps-published, follows-waiting}
 use Rattle.cq_queue_laws.proofs.Elsewhere.{keeps-acked-other, keeps-dropped-other, keeps-ended-other}
-use Rattle.cq_queue_laws.proofs.Commits.{keeps-passed, drop-first, settling-filters}
+use Rattle.cq_queue_laws.proofs.Commits.{keeps-passed, drop-first}
+use Rattle.cq_queue_laws.proofs.Settles.{settling-filters, settling-keeps}
 use Rattle.cq_queue_laws.proofs.Told.{follows-count, follows-once, follows-out-once, follows-fresh}
 use Rattle.cq_queue_laws.proofs.Referred.{refs-published, refs-settled}
 use Rattle.cq_queue_laws.proofs.Entries.{entry-keeps, opened-keeps}
 use Rattle.cq_queue_laws.proofs.Undecided.{undecided-publish, undecided-passing, undecided-settling, undecided-delivery, undecided-holding}
-use Rattle.cq_queue.specs.Items.{ack_one, back_one}
+use Rattle.cq_items.specs.Items.{ack_one, back_one}
 use Rattle.cq_queue_laws.proofs.laws.Goals as goal
 
 pub returns : goal.returns
@@ -17,7 +18,7 @@ returns c = record {
   };
   others_stay = record { by_ack = keeps-acked-other; by_drop = keeps-dropped-other; by_end = keeps-ended-other };
   passing_keeps = record { passed = keeps-passed; dropped_first = drop-first };
-  settling_filters = settling-filters;
+  settling_keeps = record { filters = settling-filters; settled = settling-keeps };
   items_tell = record {
     waiting_ids = follows-waiting;
     waiting_count = follows-count;

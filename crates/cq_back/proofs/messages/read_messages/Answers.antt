@@ -4,7 +4,7 @@ use Rattle.cq_disk.specs.File.{File}
 use Rattle.cq_disk.specs.RunLemmas.{ran_next}
 use Rattle.cq_disk.specs.Moments.{quiet_then}
 use Rattle.cq_small.specs.Store.{len_of as store_len}
-use Rattle.cq_held.specs.Held.{as_read, contents_of}
+use Rattle.cq_folder.specs.Held.{as_read, contents_of}
 use Rattle.cq_back.specs.Folder.{index_file, file_bytes}
 use Rattle.cq_back.specs.Read.{AreTaken, AreWithin, IsRead, BreaksFirst}
 use Rattle.cq_back.proofs.Opening.{same_files, damaged_to, err_of}

@@ -2,7 +2,7 @@ use Rattle.std.proofs.Common.{◌≡◌}
 use Rattle.cq_disk.specs.Files.{IsImage, SameFiles}
 use Rattle.cq_disk.specs.Run.{Ran, LeavesOnly}
 use Rattle.cq_small.specs.Store.{len_of as store_len}
-use Rattle.cq_held.specs.Held.{as_read, contents_of}
+use Rattle.cq_folder.specs.Held.{as_read, contents_of}
 use Rattle.cq_back.specs.Folder.{index_file, file_bytes}
 use Rattle.cq_back.specs.Read.{AreIdsOf, AreTaken, AreWithin, IsRead}
 use Rattle.cq_back.proofs.messages.read_messages.Given as goal

@@ -1,12 +1,11 @@
-use Rattle.std.proofs.Common.{arith}
+use Rattle.std.proofs.Common.{arith, ap}
 use Rattle.cq_disk.specs.Moments.{weaken}
 use Rattle.cq_index.specs.Segments.{count_of}
-use Rattle.cq_held.specs.Steady.{SoundBy}
+use Rattle.cq_folder.specs.Steady.{SoundBy}
 use Rattle.cq_back.specs.Folder.{IsImageOrWithout}
-use Rattle.cq_held.specs.Held.{as_read}
+use Rattle.cq_folder.specs.Held.{as_read, bytes_in, IsSettled}
 use Rattle.cq_back.proofs.Opening.{at_each, at_error, of_ok, of_err, damaged_to}
 use Rattle.cq_disk.specs.declared.name.Name.{Name}
-use Rattle.cq_held.specs.Folder.{IsSettled}
 use Rattle.cq_back.proofs.Ids.{lines_taken, lines_short}
 use Rattle.cq_back.proofs.Refused.{not_sound}
 use Rattle.cq_back.proofs.Stray.{now_holds, bare_segment, bare_store, left_sound}
@@ -69,7 +68,7 @@ returns-clause-refuses g c =
     record {
       damaged = damaged;
       cause = of_err _ r error is e.cause;
-      refuses = damaged_to error _ _ (λ name place found b told lines. not_sound (as_read (d.files c.args.disk.now)) lines name place found (b told)) damaged;
+      refuses = damaged_to error _ _ (λ name place found b told none lines. not_sound (as_read (d.files c.args.disk.now)) lines name place found (λ k. ap bytes_in (none k)) (b told)) damaged;
       reads = of_err _ r error is e.reads;
       only_reads = of_err _ r error is e.only_reads;
       unsound = of_err _ r error is e.unsound;

@@ -6,19 +6,20 @@ use Rattle.cq_index.specs.Places.{index_name}
 use Rattle.cq_journal.specs.declared.event.Entry.{Entry}
 use Rattle.cq_journal.specs.History.{opened_in}
 use Rattle.cq_journal.specs.Legal.{delivered}
-use Rattle.cq_held.specs.Held.{as_read}
-use Rattle.cq_held.specs.Steady.{IsUnsound, SoundBy}
-use Rattle.cq_held.specs.Laws.{opening}
+use Rattle.cq_folder.specs.Held.{as_read}
+use Rattle.cq_folder.specs.Steady.{IsUnsound, SoundBy}
+use Rattle.cq_folder.specs.Laws.{opening}
 use Rattle.cq_back.specs.declared.found.HeldEntry.{HeldEntry}
 use Rattle.cq_disk.specs.Files.{IsImage}
 use Rattle.cq_disk.specs.Run.{LeavesOnly}
+use Rattle.cq_rdq.specs.Records.{shared_name}
 use Rattle.cq_back.specs.Folder.{ReadsSame}
 use Rattle.cq_back.specs.Cause.{HasCause}
 use Rattle.cq_back.specs.Found.{BreaksFolder}
 use Rattle.cq_core.specs.declared.queue.RecordPlace.{RecordPlace}
 use Rattle.cq_core.specs.Stored.{AreAt, IsPlaceOf, content_in, stored}
 use Rattle.cq_node.specs.Opening.{AreWithin, IfBroken, spot_of}
-use Rattle.cq_node.proofs.Opening.{spots_found, ids_found, spots_stand, spots_within, one_queue, broken_to, broken_unless, few_found, line_opened, found_stands, found_steady}
+use Rattle.cq_node.proofs.Opening.{none_shared, spots_found, ids_found, spots_stand, spots_within, one_queue, broken_to, broken_unless, few_found, line_opened, found_stands, found_steady}
 use Rattle.cq_node.proofs.node.open_queue.Goals as goal
 
 pub returns-in-Err-clause-reads : goal.returns-in-Err-clause-reads
@@ -40,7 +41,7 @@ returns-in-Err-clause-cause g c =
 pub returns-in-Err-clause-refuses : goal.returns-in-Err-clause-refuses
 returns-in-Err-clause-refuses g c =
     subst (λ e. IfBroken e (λ name place found. g.D.Disk.tells → IsUnsound (as_read (g.D.Disk.files c.args.disk.now)))) (sym c.as_open_error.ensures)
-    (broken_to c.in-Err.error _ _ (λ name place found refused. refused) c.in-Err.ensures.refuses.refuses)
+    (broken_to c.in-Err.error _ _ (λ name place found refused told. refused told (none_shared (g.D.Disk.files c.args.disk.now) (c.requires.one_queue told))) c.in-Err.ensures.refuses.refuses)
 
 pub open-requires-clause-places : goal.open-requires-clause-places
 open-requires-clause-places g c =
@@ -65,7 +66,7 @@ returns-in-Ok-open-clause-standing g c = λ told.
     let d = g.D.Disk in
     let found = c.in-Ok.found in
     ∣ found_stands (d.files c.open_folder.new.disk) c.in-Ok-open.core.entries c.moment-stamp.result found.lines c.in-Ok-open.ensures.opened c.in-Ok-open.ensures.stored c.in-Ok.ensures.lines.one_queue c.in-Ok.ensures.lines.lines
-    (c.in-Ok.ensures.messages.now told (one_queue (d.files c.args.disk.now) (c.requires.one_queue told))) ∣₁
+    (λ k. c.open_folder.ensures.keeps.no_new told (shared_name k) (none_shared (d.files c.args.disk.now) (c.requires.one_queue told) k)) (c.in-Ok.ensures.messages.now told (one_queue (d.files c.args.disk.now) (c.requires.one_queue told))) ∣₁
 
 pub returns-in-Ok-open-clause-steady : goal.returns-in-Ok-open-clause-steady
 returns-in-Ok-open-clause-steady g c = λ told.
@@ -73,7 +74,7 @@ returns-in-Ok-open-clause-steady g c = λ told.
     let m = g.met.D.Disk in
     let found = c.in-Ok.found in
     found_steady d.moment d.left d.files (m.now_only told) (m.now_each told) (m.reads_left told) c.open_folder.new.disk c.in-Ok-open.core.entries c.moment-stamp.result found.lines c.in-Ok-open.ensures.opened c.moment-stamp.ensures c.in-Ok.ensures.lines.lines
-    (c.in-Ok.ensures.messages.now told (one_queue (d.files c.args.disk.now) (c.requires.one_queue told)))
+    (λ k. c.open_folder.ensures.keeps.no_new told (shared_name k) (none_shared (d.files c.args.disk.now) (c.requires.one_queue told) k)) (c.in-Ok.ensures.messages.now told (one_queue (d.files c.args.disk.now) (c.requires.one_queue told)))
 
 pub returns-in-Ok-open-clause-placed : goal.returns-in-Ok-open-clause-placed
 returns-in-Ok-open-clause-placed g c = λ told.

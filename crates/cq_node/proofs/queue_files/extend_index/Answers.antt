@@ -9,7 +9,7 @@ use Rattle.cq_index.specs.Places.{index_name, entries_bytes, Adds}
 use Rattle.cq_index.specs.Segments.{count_of, IsSegment}
 use Rattle.cq_index.proofs.Known.{filed, of_filed}
 use Rattle.cq_node.proofs.Few.{few_more}
-use Rattle.cq_held.proofs.Images.{step_part}
+use Rattle.cq_folder.proofs.Images.{step_part}
 use Rattle.cq_node.proofs.Agreeing.{index_steady, index_stands}
 use Rattle.cq_node.proofs.queue_files.extend_index.Goals as goal
 

@@ -4,7 +4,7 @@ use Rattle.cq_disk.specs.File.{settled}
 use Rattle.cq_gate.specs.Format.{content}
 use Rattle.cq_gate.specs.Gated.{KeepsOrAdds}
 use Rattle.cq_gate.specs.Calls.{Touches, Moves}
-use Rattle.cq_held.proofs.Images.{step_part}
+use Rattle.cq_folder.proofs.Images.{step_part}
 use Rattle.cq_small.specs.Calls.{Adds, TakesMore}
 use Rattle.cq_small.specs.Record.{HasRecord}
 use Rattle.cq_small.specs.Store.{small_name, end_of, gate_of, StandsAt, IsSmallStore}

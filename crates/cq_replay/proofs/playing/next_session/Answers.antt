@@ -2,8 +2,8 @@ use Rattle.std.proofs.Common.{◌≡◌, ◌+◌, ◌≤◌, ◌++◌, ◌∷◌
 use Rattle.std.proofs.lemmas.List.{length_push}
 use Rattle.std.proofs.lemmas.Result.{IfOk-at_ok}
 use Rattle.cq_disk.specs.Files.{IsImage, SameFiles}
-use Rattle.cq_held.specs.Held.{as_read}
-use Rattle.cq_held.proofs.One.{agrees_is_sound}
+use Rattle.cq_folder.specs.Held.{as_read}
+use Rattle.cq_folder.proofs.One.{agrees_is_sound}
 use Rattle.cq_journal.specs.History.{line}
 use Rattle.cq_script.specs.declared.script.StepWord.{StepWord}
 use Rattle.cq_script.specs.Scripts.{is_crash, crashes}

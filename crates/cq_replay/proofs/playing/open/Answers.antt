@@ -4,7 +4,7 @@ use Rattle.cq_disk.specs.declared.disk.OpenError.TheVariants as error
 use Rattle.cq_replay.specs.declared.playing.Ending.TheVariants as ending
 use Rattle.cq_replay.specs.Played.{HasFailed}
 use Rattle.cq_replay.proofs.Endings.{on_none, on_less, memory_ends}
-use Rattle.cq_held.proofs.Images.{reads_image}
+use Rattle.cq_folder.proofs.Images.{reads_image}
 use Rattle.cq_replay.proofs.Ready.{room_after, not_broken, unopened_fault, unopened_was, not_in_session, agrees_same, agrees_then}
 use Rattle.cq_replay.proofs.playing.open.Goals as goal
 

@@ -1,6 +1,6 @@
 use Rattle.std.proofs.Common.{◌≡◌, ◌<◌, ◌+◌, ◌++◌, ℕ, length, sym, ap, ◌∙◌, subst}
-use Rattle.cq_held.specs.Held.{as_read, Held}
-use Rattle.cq_held.proofs.Kept.{keeps_steady}
+use Rattle.cq_folder.specs.Held.{as_read, Held}
+use Rattle.cq_folder.proofs.Kept.{keeps_steady}
 use Rattle.cq_inbox.specs.Requests.{publishes}
 use Rattle.cq_index.specs.Places.{index_name}
 use Rattle.cq_journal.specs.Asks.{asks}

@@ -1,5 +1,6 @@
 use Rattle.std.proofs.Common.{◌≡◌, false, Ok, IsErrOf, ℕ, ◌≤◌, ◌<◌, ◌+◌, ◌-◌, List, length, subst, refl, sym, ap, ◌∙◌, arith}
 use Rattle.std.specs.Prelude.{All}
+use Rattle.cq_folder.specs.Holding.{joined}
 use Rattle.std.specs.List.{AllByRecursion, AllZip}
 use Rattle.std.proofs.Math.Logic.{∥∥₁_elim, ∥∥₁_map}
 use Rattle.std.proofs.lemmas.Bool.{false≢true}
@@ -14,13 +15,14 @@ use Rattle.cq_journal.specs.Asks.{asks, replies}
 use Rattle.cq_journal.specs.Confirms.{confirmed}
 use Rattle.cq_journal.specs.History.{line}
 use Rattle.cq_journal.specs.Legal.{delivered}
-use Rattle.cq_held.specs.Held.{as_read, Held}
-use Rattle.cq_held.specs.Steady.{Steady, Steady-prop}
-use Rattle.cq_held.specs.Standing.{Standing, joined, confirm_all}
+use Rattle.cq_folder.specs.Held.{as_read, Held}
+use Rattle.cq_folder.specs.Steady.{Steady, Steady-prop}
+use Rattle.cq_folder.specs.Standing.{Standing, confirm_all}
 use Rattle.cq_core.specs.declared.queue.RecordPlace.{RecordPlace}
 use Rattle.cq_core.specs.Answers.{AddsSince}
 use Rattle.cq_core.specs.Batch.{IsBatch}
 use Rattle.cq_core.specs.Core.{undecided, AddsConfirmsAlone, HasReplies, IsWritable}
+use Rattle.cq_back.specs.Folder.{no_sharing}
 use Rattle.cq_core.specs.Stored.{IsPlaceOf, stored, unstored, stored_count, records_of, spots_of, passes, content_in}
 use Rattle.cq_core.proofs.Counts.{published-asked}
 use Rattle.cq_core.proofs.Laid.{length-spots, count-entries}
@@ -259,7 +261,7 @@ invariant_of-self-then-is_err-3-clause-steady g c = λ told.
     let disk = c.reserve-else-is_err.new.self.disk in
     let new = c.commit-written.new.self.disk in
     let is : IsBatch base (unstored journal) c.in-Ok.batch = subst (λ l. IsBatch base l c.in-Ok.batch) c.undecided-2.ensures.same c.in-Ok.ensures in
-    let stands = subst (λ k. ∥ Standing (d.files k) journal lines ∥₁) (sym same.0) (a.standing c.if-self.false told) in
+    let stands = subst (λ k. ∥ Standing (d.files k) no_sharing journal lines ∥₁) (sym same.0) (a.standing c.if-self.false told) in
     let long : length c.deref.result.now ≡ length (unstored journal) = ap length (c.deref.ensures.value ∙ is.entries) ∙ count-entries base (unstored journal) in
     let fit : a.opened + confirmed journal + length c.deref.result.now ≤ 4096 = omega (arith, long, ap length c.undecided-2.ensures.same, c.undecided-2.ensures.count, a.few, published-asked journal) in
     let room = has_room (d.files disk) (index_name 0 0) (a.opened + confirmed journal) (length c.deref.result.now) (g.met.D.Disk.reads_left told disk)
@@ -283,7 +285,7 @@ invariant_of-self-3-clause-standing g c = λ running told.
     let some : 0 < length (unstored journal) = omega (arith, ap length c.undecided-2.ensures.same, c.undecided.ensures.count, c.undecided-2.ensures.count, c.len-count.ensures, c.if-count-eq0.false) in
     let lines = stored_lines journal in
     let disk = c.reserve-else-is_err.new.self.disk in
-    let stands = subst (λ k. ∥ Standing (d.files k) journal lines ∥₁) (sym same.0) (a.standing c.if-self.false told) in
+    let stands = subst (λ k. ∥ Standing (d.files k) no_sharing journal lines ∥₁) (sym same.0) (a.standing c.if-self.false told) in
     let long : length c.deref.result.now ≡ length (unstored journal) = ap length (c.deref.ensures.value ∙ is.entries) ∙ count-entries base (unstored journal) in
     let fit : a.opened + confirmed journal + length c.deref.result.now ≤ 4096 = omega (arith, long, ap length c.undecided-2.ensures.same, c.undecided-2.ensures.count, a.few, published-asked journal) in
     let room = has_room (d.files disk) (index_name 0 0) (a.opened + confirmed journal) (length c.deref.result.now) (g.met.D.Disk.reads_left told disk)
@@ -292,9 +294,9 @@ invariant_of-self-3-clause-standing g c = λ running told.
     (come journal (d.files disk) base c.in-Ok.batch c.deref.result.now (c.reserve-else-is_err.new.self.alone told) room c.undecided.ensures.tells.unsettled is c.deref.ensures.value) in
     let passed : now ≡ confirm_all c.moment-stamp.result (passes (confirmed journal) (unstored journal)) journal = c.confirm_all.ensures.exact ∙ ap (λ l. confirm_all c.moment-stamp.result (passes (confirmed l) (unstored l)) l) c.reserve.ensures.entries in
     let joins = no_error c.commit-written.result (sym c.is_err-2.ensures.value ∙ c.if-is_err-3.false) c.commit-written.ensures.stands in
-    subst (λ l. ∥ Standing (d.files c.commit-written.new.self.disk) now l ∥₁) (now_lines journal c.undecided.ensures.tells.alone now all)
-    (subst (λ l. ∥ Standing (d.files c.commit-written.new.self.disk) l (joined 0 (unstored journal) lines) ∥₁) (sym passed)
-    (∥∥₁_map stands (λ s. passed_stand (d.files c.commit-written.new.self.disk) (joined 0 (unstored journal) lines) c.moment-stamp.result (passes (confirmed journal) (unstored journal)) journal (all_safe journal c.undecided.ensures.tells.alone)
+    subst (λ l. ∥ Standing (d.files c.commit-written.new.self.disk) no_sharing now l ∥₁) (now_lines journal c.undecided.ensures.tells.alone now all)
+    (subst (λ l. ∥ Standing (d.files c.commit-written.new.self.disk) no_sharing l (joined 0 (unstored journal) lines) ∥₁) (sym passed)
+    (∥∥₁_map stands (λ s. passed_stand (d.files c.commit-written.new.self.disk) no_sharing (joined 0 (unstored journal) lines) c.moment-stamp.result (passes (confirmed journal) (unstored journal)) journal (all_safe journal c.undecided.ensures.tells.alone)
     (joins told journal lines (unstored journal) c.undecided.ensures.tells.legal will s))))
 
 pub invariant_of-self-3-clause-steady : goal.invariant_of-self-3-clause-steady
@@ -311,7 +313,7 @@ invariant_of-self-3-clause-steady g c = λ told.
     let some : 0 < length (unstored journal) = omega (arith, ap length c.undecided-2.ensures.same, c.undecided.ensures.count, c.undecided-2.ensures.count, c.len-count.ensures, c.if-count-eq0.false) in
     let lines = stored_lines journal in
     let disk = c.reserve-else-is_err.new.self.disk in
-    let stands = subst (λ k. ∥ Standing (d.files k) journal lines ∥₁) (sym same.0) (a.standing c.if-self.false told) in
+    let stands = subst (λ k. ∥ Standing (d.files k) no_sharing journal lines ∥₁) (sym same.0) (a.standing c.if-self.false told) in
     let long : length c.deref.result.now ≡ length (unstored journal) = ap length (c.deref.ensures.value ∙ is.entries) ∙ count-entries base (unstored journal) in
     let fit : a.opened + confirmed journal + length c.deref.result.now ≤ 4096 = omega (arith, long, ap length c.undecided-2.ensures.same, c.undecided-2.ensures.count, a.few, published-asked journal) in
     let room = has_room (d.files disk) (index_name 0 0) (a.opened + confirmed journal) (length c.deref.result.now) (g.met.D.Disk.reads_left told disk)
@@ -325,7 +327,7 @@ invariant_of-self-3-clause-steady g c = λ told.
     let steady = subst (λ k. Steady (d.left k) (d.moment k) journal) (sym same.0) (a.steady told) in
     subst (Steady (d.left new) (d.moment new)) (sym passed)
     (∥∥₁_elim stands (Steady-prop (d.left new) (d.moment new) (confirm_all (d.moment new) ps journal)) (λ s.
-    (laws d.moment d.left d.files (g.met.D.Disk.now_only told) (g.met.D.Disk.now_each told) (g.met.D.Disk.reads_left told)).confirmed new journal (joined 0 (unstored journal) lines) ps (λ p there. all_safe journal c.undecided.ensures.tells.alone p.id)
+    (laws d.moment d.left d.files (g.met.D.Disk.now_only told) (g.met.D.Disk.now_each told) (g.met.D.Disk.reads_left told)).confirmed new no_sharing journal (joined 0 (unstored journal) lines) ps (λ p there. all_safe journal c.undecided.ensures.tells.alone p.id)
     (joins told journal lines (unstored journal) c.undecided.ensures.tells.legal will s)
     (c.commit-written.ensures.steady told journal lines (unstored journal) c.undecided.ensures.tells.legal s will steady)))
 

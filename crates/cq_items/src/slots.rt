@@ -1,0 +1,58 @@
+// The places of a queue's messages.
+ghost use Rattle.cq_items.specs.Items.{decide};
+ghost use Rattle.cq_items.specs.Slots.{held_by, slot_at, stand_of};
+ghost use Rattle.std.specs.VecDeque.{deque_capacity};
+ghost use Rattle.std.specs.Prelude.{◌≡◌, ◌<◌, ◌≤◌, length, filter, slice_set, None, is_some, option_map};
+
+use crate::{Holder, Item, Stand};
+use std::collections::VecDeque;
+
+/// Gives the message at a place to another holder.
+pub(crate) fn set_holder(slots: &mut VecDeque<Option<Item>>, at: usize, holder: Holder)
+    requires { at < length slots.old.items }
+    ensures slots { slots.new.items ≡ slice_set slots.old.items at (held_by holder (slot_at slots.old.items at)) }
+    ensures capacity { deque_capacity slots.new ≡ deque_capacity slots.old }
+{
+    if let Some(item) = &mut slots[at] {
+        item.holder = holder;
+    }
+}
+
+/// Commits the message at a place, whose entry and record stand there; its body leaves memory.
+pub(crate) fn commit(slots: &mut VecDeque<Option<Item>>, at: usize, stand: Stand)
+    requires { at < length slots.old.items }
+    ensures slots { slots.new.items ≡ slice_set slots.old.items at (option_map (decide stand) (slot_at slots.old.items at)) }
+    ensures capacity { deque_capacity slots.new ≡ deque_capacity slots.old }
+{
+    if let Some(item) = &mut slots[at] {
+        item.stand = Some(stand);
+        item.body = None;
+    }
+}
+
+/// Where the entry of the message at a place stands. `None` exactly where there is none that is committed.
+pub(crate) fn stand_of(slot: &Option<Item>) -> Option<Stand>
+    ensures { result ≡ stand_of slot.now }
+{
+    match slot {
+        Some(item) => item.stand,
+        None => None,
+    }
+}
+
+/// Drops the message of a place.
+pub(crate) fn empty(slots: &mut VecDeque<Option<Item>>, at: usize)
+    requires { at < length slots.old.items }
+    ensures slots { slots.new.items ≡ slice_set slots.old.items at None }
+    ensures capacity { deque_capacity slots.new ≡ deque_capacity slots.old }
+{
+    slots[at] = None;
+}
+
+/// Drops the empty places.
+pub(crate) fn close_up(slots: &mut VecDeque<Option<Item>>)
+    ensures slots { slots.new.items ≡ filter is_some slots.old.items }
+    ensures capacity { deque_capacity slots.new ≡ deque_capacity slots.old }
+{
+    slots.retain(|slot| slot.is_some());
+}

@@ -1,0 +1,4 @@
+pub mod Names
+pub mod Paths
+pub mod Calls
+pub mod Opened
