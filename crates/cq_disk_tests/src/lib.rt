@@ -4,6 +4,8 @@
 #[cfg(test)]
 mod appends;
 #[cfg(test)]
+mod bulk;
+#[cfg(test)]
 mod memory;
 #[cfg(test)]
 mod segments;

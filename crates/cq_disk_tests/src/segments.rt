@@ -17,7 +17,7 @@ const NAME: Name = Name {
     number: 0,
 };
 
-const FIRST: Entry = Entry {
+pub(crate) const FIRST: Entry = Entry {
     kind: EntryKind::Small,
     len: 5,
     id: 1,
@@ -31,7 +31,7 @@ const SECOND: Entry = Entry {
     place: 0,
 };
 
-const THIRD: Entry = Entry {
+pub(crate) const THIRD: Entry = Entry {
     kind: EntryKind::Small,
     len: 0,
     id: 256,
@@ -42,8 +42,9 @@ const THIRD: Entry = Entry {
 const IMAGES: [u64; 8] = [0, 1, 2, 3, 57, 257, 258, 259];
 
 /// A segment with three entries: a call that makes its file, and the seven of an append on a bare file.
-fn three<D: Disk>(alloc: Global, disk: &mut D) -> Result<Segment, SegmentError>
+pub(crate) fn three<D: Disk>(alloc: Global, disk: &mut D) -> Result<Segment, SegmentError>
     requires { D.tells → D.files disk.old (index_name 0 0) ≡ None }
+    ensures name { IfOk result (λ s. name_of s ≡ index_name 0 0) }
     ensures count { IfOk result (λ s. count_of s ≡ 3) }
     ensures present { IfOk result (λ s. (k : ℕ) → k < 3 → Contains (present_of s) k) }
     ensures segment { IfOk result (λ s. D.tells → IsSegment s (D.files disk.new (name_of s))) }

@@ -1,0 +1,22 @@
+use Rattle.std.proofs.Common.{◌≡◌, ◌∙◌, ◌-◌, Bool, List, Some, length, sym, ap}
+use Rattle.std.specs.Prelude.{slice_get}
+use Rattle.cq_queue.specs.declared.segment.QueueSegment.{QueueSegment}
+use Rattle.cq_queue.specs.Tied.{Pick}
+use Rattle.cq_queue.proofs.Picked.{got_last, pick_at}
+use Rattle.cq_queue.proofs.segments.Segments.next_base.Goals as goal
+
+pub returns-then-has_room-clause-base : goal.returns-then-has_room-clause-base
+returns-then-has_room-clause-base c =
+    let s = c.args.self.now in
+    let x = c.in-Some.last.now in
+    let is : slice_get s.list.items (length s.list.items - 1) ≡ Some x = sym c.in-Some.ensures.value in
+    let pick = got_last s.most s.list.items x is ∙ ap (λ (b : Bool). pick_at b x) (sym c.has_room.ensures ∙ c.if-has_room.true) in
+    c.base.ensures.end ∙ sym (ap (λ (p : Pick). p.base) pick)
+
+pub returns-else-has_room-clause-base : goal.returns-else-has_room-clause-base
+returns-else-has_room-clause-base c =
+    let s = c.args.self.now in
+    let x = c.in-Some.last.now in
+    let is : slice_get s.list.items (length s.list.items - 1) ≡ Some x = sym c.in-Some.ensures.value in
+    let pick = got_last s.most s.list.items x is ∙ ap (λ (b : Bool). pick_at b x) (sym c.has_room.ensures ∙ c.if-has_room.false) in
+    sym (ap (λ (p : Pick). p.base) pick)

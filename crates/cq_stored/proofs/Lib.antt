@@ -1,0 +1,11 @@
+pub mod Sublists
+pub mod Holding
+pub mod Steps
+pub mod Other
+pub mod History
+pub mod Alike
+pub mod Skipped
+pub mod InStep
+pub mod Stands
+pub mod Queues
+pub mod PassedLaws

@@ -1,0 +1,5 @@
+pub mod Stored
+pub mod Steps
+pub mod InStep
+pub mod Queues
+pub mod Passed
