@@ -1,8 +1,8 @@
 -- Which entries are decided, and what passing one does.
 use Prim.Native.Nat.{zero, suc}
-use Rattle.std.proofs.Common.{◌≡◌, ◌≢◌, ℕ, ◌+◌, ◌<◌, ◌≤◌, Bool, true, false, not, cond, List, [], ◌∷◌, length, get_or, set, drop, refl, sym, ap, ◌∙◌, subst, arith, length-drop}
+use Rattle.std.proofs.Common.{◌≡◌, ◌≢◌, ℕ, ◌+◌, ◌<◌, ◌≤◌, Bool, true, false, not, cond, List, [], ◌∷◌, length, get_or, set, drop, refl, sym, ap, ◌∙◌, subst, arith, inl, inr, length-drop}
 use Rattle.std.specs.Prelude.{is_some, ◌==◌, ◌||◌, Option, None, Some, slice_get, option_map}
-use Rattle.std.proofs.lemmas.Bool.{cond-true, cond-false, not-true, and_from, eq-eqb}
+use Rattle.std.proofs.lemmas.Bool.{cond-true, cond-false, not-true, and_from, eq-eqb, cases_lt}
 use Rattle.std.proofs.lemmas.List.{drop_more, get_or_read}
 use Rattle.cq_items.specs.declared.item.Item.{Item}
 use Rattle.cq_items.specs.declared.item.Stand.{Stand}
@@ -17,21 +17,21 @@ use Rattle.cq_items.specs.Queue.{FindsOut, IsSplit, IsIndexed}
 use Rattle.cq_items.proofs.Places.{IsPassing, passing}
 use Rattle.cq_items.proofs.Steps.{IsHeadAt, indexed-kept}
 
-tail-none : (s : Option Item) (ss : List (Option Item)) → IsSplit (s ∷ ss) 0 → IsSplit ss 0
+tail-none : (s : Option Item) (ss : List (Option Item)) → IsSplit undecided (s ∷ ss) 0 → IsSplit undecided ss 0
 tail-none s ss h = record {
   within = omega arith;
   before = λ k l. absurd (omega arith);
   after = λ k a l. h.after (suc k) (omega arith) (omega arith);
 }
 
-tail-more : (s : Option Item) (ss : List (Option Item)) (f : ℕ) → IsSplit (s ∷ ss) (suc f) → IsSplit ss f
+tail-more : (s : Option Item) (ss : List (Option Item)) (f : ℕ) → IsSplit undecided (s ∷ ss) (suc f) → IsSplit undecided ss f
 tail-more s ss f h = record {
   within = omega (arith, h.within);
   before = λ k l. h.before (suc k) (omega arith);
   after = λ k a l. h.after (suc k) (omega arith) (omega arith);
 }
 
-pub undecided-drop : (ss : List (Option Item)) (f : ℕ) → IsSplit ss f → undecided_items (alive ss) ≡ alive (drop f ss)
+pub undecided-drop : (ss : List (Option Item)) (f : ℕ) → IsSplit undecided ss f → undecided_items (alive ss) ≡ alive (drop f ss)
 undecided-drop [] zero h = refl
 undecided-drop [] (suc f) h = refl
 undecided-drop (None ∷ ss) zero h = let t : false ≡ true = h.after 0 (omega arith) (omega arith) in cc
@@ -51,7 +51,7 @@ get-alive (None ∷ ss) k h = let t : false ≡ true = h 0 (omega arith) in cc
 get-alive (Some i ∷ ss) zero h = refl
 get-alive (Some i ∷ ss) (suc k) h = get-alive ss k (λ j l. h (suc j) (omega arith))
 
-get-dropped : (ss : List (Option Item)) (f k : ℕ) → IsSplit ss f → slice_get (alive (drop f ss)) k ≡ slot_at ss (f + k)
+get-dropped : (ss : List (Option Item)) (f k : ℕ) → IsSplit undecided ss f → slice_get (alive (drop f ss)) k ≡ slot_at ss (f + k)
 get-dropped [] zero k h = refl
 get-dropped [] (suc f) k h = refl
 get-dropped (s ∷ ss) zero k h = get-alive (s ∷ ss) k (λ j l. h.after j (omega arith) l) ∙ ap (slot_at (s ∷ ss)) (omega arith)
@@ -59,7 +59,7 @@ get-dropped (s ∷ ss) (suc f) k h =
     let e : suc (f + k) ≡ suc f + k = omega arith in
     get-dropped ss f k (tail-more s ss f h) ∙ ap (slot_at (s ∷ ss)) e
 
-pub undecided-get : (ss : List (Option Item)) (f k : ℕ) → IsSplit ss f → slice_get (undecided_items (alive ss)) k ≡ slot_at ss (f + k)
+pub undecided-get : (ss : List (Option Item)) (f k : ℕ) → IsSplit undecided ss f → slice_get (undecided_items (alive ss)) k ≡ slot_at ss (f + k)
 undecided-get ss f k h = ap (λ (is : List Item). slice_get is k) (undecided-drop ss f h) ∙ get-dropped ss f k h
 
 slot-past : (ss : List (Option Item)) (k : ℕ) → length ss ≤ k → slot_at ss k ≡ None
@@ -67,8 +67,19 @@ slot-past [] k l = refl
 slot-past (s ∷ ss) zero l = absurd (omega arith)
 slot-past (s ∷ ss) (suc k) l = slot-past ss k (omega arith)
 
-pub undecided-past : (ss : List (Option Item)) (f k : ℕ) → IsSplit ss f → length ss ≤ f + k → slice_get (undecided_items (alive ss)) k ≡ None
+pub undecided-past : (ss : List (Option Item)) (f k : ℕ) → IsSplit undecided ss f → length ss ≤ f + k → slice_get (undecided_items (alive ss)) k ≡ None
 undecided-past ss f k h l = undecided-get ss f k h ∙ slot-past ss (f + k) l
+
+-- where nothing is undecided all is decided
+pub all-decided : (ss : List (Option Item)) (f : ℕ) → IsSplit undecided ss f → undecided_items (alive ss) ≡ [] → f ≡ length ss
+all-decided ss f h e =
+    elim (cases_lt f (length ss)) [
+      | inl l ↦ (
+          let none : slot_at ss (f + 0) ≡ None = sym (undecided-get ss f 0 h) ∙ ap (λ (is : List Item). slice_get is 0) e in
+          let at : slot_at ss f ≡ None = ap (slot_at ss) (omega arith) ∙ none in
+          let t : false ≡ true = sym (ap (passes undecided) at) ∙ h.after f (omega arith) l in cc)
+      | inr g ↦ omega (arith, g, h.within)
+    ]
 
 -- ---- the first undecided message
 
@@ -87,7 +98,7 @@ pub record IsHeadOf (ss : List (Option Item)) (f : ℕ) : Type 0 where
   pub head : IsHeadAt ss f item
   pub items : undecided_items (alive ss) ≡ item ∷ others
 
-pub head-of : (ss : List (Option Item)) (f : ℕ) (i : Item) (is : List Item) → IsSplit ss f → undecided_items (alive ss) ≡ i ∷ is → IsHeadOf ss f
+pub head-of : (ss : List (Option Item)) (f : ℕ) (i : Item) (is : List Item) → IsSplit undecided ss f → undecided_items (alive ss) ≡ i ∷ is → IsHeadOf ss f
 head-of ss f i is h e =
     let n : length (drop f ss) ≢ 0 = λ z. (let none : drop f ss ≡ [] = empty-list (drop f ss) z in let t : [] ≡ i ∷ is = sym (sym e ∙ undecided-drop ss f h ∙ ap alive none) in cc) in
     let l : f < length ss = omega (arith, n, length-drop f ss, h.within) in
@@ -99,7 +110,7 @@ head-of ss f i is h e =
       items = undecided-drop ss f h ∙ ap alive (drop_more ss f None l) ∙ ap (λ (s : Option Item). alive (s ∷ drop (f + 1) ss)) p.stands;
     }
 
-pub head-held : (ss : List (Option Item)) (f : ℕ) (o : Holder) → IsSplit ss f → IsHeldBy o (undecided_items (alive ss)) → (h : IsHeadOf ss f) × (h.item.holder ≡ o)
+pub head-held : (ss : List (Option Item)) (f : ℕ) (o : Holder) → IsSplit undecided ss f → IsHeldBy o (undecided_items (alive ss)) → (h : IsHeadOf ss f) × (h.item.holder ≡ o)
 head-held ss f o s held =
     (elim (undecided_items (alive ss)) as (λ (is : List Item). undecided_items (alive ss) ≡ is → IsHeldBy o is → (h : IsHeadOf ss f) × (h.item.holder ≡ o)) [
       | [] ↦ λ e held. absurd held
@@ -110,7 +121,7 @@ head-held ss f o s held =
           (h, ap (λ (x : Item). x.holder) (sym same) ∙ held))
     ]) refl held
 
-pub head-kept : (ss : List (Option Item)) (f : ℕ) → IsSplit ss f → MayKeep (undecided_items (alive ss)) → (h : IsHeadOf ss f) × (is_gone h.item.holder ≡ false)
+pub head-kept : (ss : List (Option Item)) (f : ℕ) → IsSplit undecided ss f → MayKeep (undecided_items (alive ss)) → (h : IsHeadOf ss f) × (is_gone h.item.holder ≡ false)
 head-kept ss f s kept =
     (elim (undecided_items (alive ss)) as (λ (is : List Item). undecided_items (alive ss) ≡ is → MayKeep is → (h : IsHeadOf ss f) × (is_gone h.item.holder ≡ false)) [
       | [] ↦ λ e kept. absurd kept
@@ -124,7 +135,7 @@ head-kept ss f s kept =
 -- ---- what passing it leaves
 
 -- a slot in place of the first undecided one, where it is what passing makes of it
-pass-view : (skip : Bool) (st : Stand) (ss : List (Option Item)) (f : ℕ) (x : Item) (s : Option Item) → IsSplit ss f → IsHeadAt ss f x
+pass-view : (skip : Bool) (st : Stand) (ss : List (Option Item)) (f : ℕ) (x : Item) (s : Option Item) → IsSplit undecided ss f → IsHeadAt ss f x
     → ((rest : List (Option Item)) → alive (s ∷ rest) ≡ cond (skips skip x) (alive rest) (decide st x ∷ alive rest)) → alive (set ss f s) ≡ pass_first skip st (alive ss)
 pass-view skip st [] f x s h a e = absurd (omega (arith, a.within))
 pass-view skip st (None ∷ ss) zero x s h a e = let t : None ≡ Some x = a.stands in cc
@@ -140,10 +151,10 @@ pass-view skip st (Some i ∷ ss) (suc f) x s h a e =
     ap (λ (is : List Item). i ∷ is) (pass-view skip st ss f x s (tail-more (Some i) ss f h) (record { stands = a.stands; undecided_is = a.undecided_is; within = omega (arith, a.within) }) e)
     ∙ sym (cond-true (is_some i.stand) (i ∷ pass_first skip st (alive ss)) (cond (skips skip i) (alive ss) (decide st i ∷ alive ss)) c)
 
-pub keep-view : (st : Stand) (ss : List (Option Item)) (f : ℕ) (x : Item) → IsSplit ss f → IsHeadAt ss f x → is_gone x.holder ≡ false → alive (set ss f (Some (decide st x))) ≡ pass_first false st (alive ss)
+pub keep-view : (st : Stand) (ss : List (Option Item)) (f : ℕ) (x : Item) → IsSplit undecided ss f → IsHeadAt ss f x → is_gone x.holder ≡ false → alive (set ss f (Some (decide st x))) ≡ pass_first false st (alive ss)
 keep-view st ss f x h a n = pass-view false st ss f x (Some (decide st x)) h a (λ rest. sym (cond-false (skips false x) (alive rest) (decide st x ∷ alive rest) n))
 
-pub leave-view : (st : Stand) (ss : List (Option Item)) (f : ℕ) (x : Item) → IsSplit ss f → IsHeadAt ss f x → alive (set ss f None) ≡ pass_first true st (alive ss)
+pub leave-view : (st : Stand) (ss : List (Option Item)) (f : ℕ) (x : Item) → IsSplit undecided ss f → IsHeadAt ss f x → alive (set ss f None) ≡ pass_first true st (alive ss)
 leave-view st ss f x h a = pass-view true st ss f x None h a (λ rest. refl)
 
 pub or-true : (b : Bool) → (b || true) ≡ true
@@ -189,7 +200,7 @@ pub indexed-committed : (st : Stand) (ss : List (Option Item)) (ws : List ℕ) (
     → IsIndexed (set ss f (option_map (decide st) (slot_at ss f))) ws held gone (f + 1)
 indexed-committed st ss ws held gone f x h a n = subst (λ (s : Option Item). IsIndexed (set ss f (option_map (decide st) s)) ws held gone (f + 1)) (sym a.stands) (indexed-kept st ss ws held gone f x h a n)
 
-pub committed-view : (st : Stand) (ss : List (Option Item)) (f : ℕ) (x : Item) → IsSplit ss f → IsHeadAt ss f x → is_gone x.holder ≡ false → alive (set ss f (option_map (decide st) (slot_at ss f))) ≡ pass_first false st (alive ss)
+pub committed-view : (st : Stand) (ss : List (Option Item)) (f : ℕ) (x : Item) → IsSplit undecided ss f → IsHeadAt ss f x → is_gone x.holder ≡ false → alive (set ss f (option_map (decide st) (slot_at ss f))) ≡ pass_first false st (alive ss)
 committed-view st ss f x h a n = ap (λ (s : Option Item). alive (set ss f (option_map (decide st) s))) a.stands ∙ keep-view st ss f x h a n
 
 pub head-out : (ss : List (Option Item)) (held : List Held) (f c d : ℕ) (x : Item) → FindsOut ss held → IsHeadAt ss f x → x.holder ≡ Out c d → find c d held ≡ Some f

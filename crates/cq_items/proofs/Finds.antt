@@ -7,7 +7,7 @@ use Rattle.cq_items.specs.declared.item.Item.{Item}
 use Rattle.cq_items.specs.declared.item.Holder.{Holder}
 use Rattle.cq_items.specs.declared.item.Holder.TheVariants.{Waiting, Out, Gone}
 use Rattle.cq_items.specs.declared.outs.Held.{Held}
-use Rattle.cq_items.specs.Items.{is_free, is_gone, is_out, out_for, undecided}
+use Rattle.cq_items.specs.Items.{is_free, is_gone, is_out, out_for}
 use Rattle.cq_items.specs.Slots.{slot_at, passes}
 use Rattle.cq_items.specs.Outs.{find, Puts}
 use Rattle.cq_items.specs.Queue.{FindsOut, IsSplit}
@@ -150,32 +150,42 @@ finds-released ss held after k c d s h out now puts =
 
 -- ---- what is decided
 
-pub splits-push : (ss : List (Option Item)) (f : ℕ) (s : Option Item) → IsSplit ss f → passes undecided s ≡ true → IsSplit (ss ++ s ∷ []) f
-splits-push ss f s h u = record {
+pub splits-push : (t : Item → Bool) (ss : List (Option Item)) (f : ℕ) (s : Option Item) → IsSplit t ss f → passes t s ≡ true → IsSplit t (ss ++ s ∷ []) f
+splits-push t ss f s h u = record {
   within = omega (arith, h.within, length_push ss s);
-  before = λ k l. ap (passes undecided) (get_or_append_left ss (s ∷ []) None k (omega (arith, h.within))) ∙ h.before k l;
+  before = λ k l. ap (passes t) (get_or_append_left ss (s ∷ []) None k (omega (arith, h.within))) ∙ h.before k l;
   after = λ k a l. elim (cases_lt k (length ss)) [
-    | inl below ↦ ap (passes undecided) (get_or_append_left ss (s ∷ []) None k below) ∙ h.after k a below
-    | inr above ↦ ap (passes undecided) (get_or_at ss s [] None k (omega (arith, length_push ss s))) ∙ u
+    | inl below ↦ ap (passes t) (get_or_append_left ss (s ∷ []) None k below) ∙ h.after k a below
+    | inr above ↦ ap (passes t) (get_or_at ss s [] None k (omega (arith, length_push ss s))) ∙ u
   ];
 }
 
-pub splits-same : (ss : List (Option Item)) (f k : ℕ) (s : Option Item) → IsSplit ss f → k < length ss → passes undecided s ≡ passes undecided (slot_at ss k) → IsSplit (set ss k s) f
-splits-same ss f k s h l n = record {
+pub splits-past : (t : Item → Bool) (ss : List (Option Item)) (f : ℕ) (s : Option Item) → IsSplit t ss f → f ≡ length ss → passes t s ≡ false → IsSplit t (ss ++ s ∷ []) (length ss + 1)
+splits-past t ss f s h e n = record {
+  within = omega (arith, length_push ss s);
+  before = λ k l. elim (cases_lt k (length ss)) [
+    | inl below ↦ ap (passes t) (get_or_append_left ss (s ∷ []) None k below) ∙ h.before k (omega (arith, e, below))
+    | inr above ↦ ap (passes t) (get_or_at ss s [] None k (omega (arith, l, above))) ∙ n
+  ];
+  after = λ k a l. absurd (omega (arith, length_push ss s, a, l));
+}
+
+pub splits-same : (t : Item → Bool) (ss : List (Option Item)) (f k : ℕ) (s : Option Item) → IsSplit t ss f → k < length ss → passes t s ≡ passes t (slot_at ss k) → IsSplit t (set ss k s) f
+splits-same t ss f k s h l n = record {
   within = omega (arith, h.within, length-set ss k s);
-  before = λ j b. passes-set undecided ss k j s l n ∙ h.before j b;
-  after = λ j a b. passes-set undecided ss k j s l n ∙ h.after j a (omega (arith, length-set ss k s));
+  before = λ j b. passes-set t ss k j s l n ∙ h.before j b;
+  after = λ j a b. passes-set t ss k j s l n ∙ h.after j a (omega (arith, length-set ss k s));
 }
 
 -- one more is decided
-pub splits-more : (ss : List (Option Item)) (f : ℕ) (s : Option Item) → IsSplit ss f → f < length ss → passes undecided s ≡ false → IsSplit (set ss f s) (f + 1)
-splits-more ss f s h l n = record {
+pub splits-more : (t : Item → Bool) (ss : List (Option Item)) (f : ℕ) (s : Option Item) → IsSplit t ss f → f < length ss → passes t s ≡ false → IsSplit t (set ss f s) (f + 1)
+splits-more t ss f s h l n = record {
   within = omega (arith, length-set ss f s);
   before = λ j b. elim (cases_eq j f) [
-    | inl here ↦ subst (λ i. passes undecided (slot_at (set ss f s) i) ≡ false) (sym here) (ap (passes undecided) (slot-same ss f s l) ∙ n)
-    | inr other ↦ ap (passes undecided) (slot-other ss f j s other) ∙ h.before j (omega arith)
+    | inl here ↦ subst (λ i. passes t (slot_at (set ss f s) i) ≡ false) (sym here) (ap (passes t) (slot-same ss f s l) ∙ n)
+    | inr other ↦ ap (passes t) (slot-other ss f j s other) ∙ h.before j (omega arith)
   ];
   after = λ j a b. (
       let other : j ≢ f = λ e. omega arith in
-      ap (passes undecided) (slot-other ss f j s other) ∙ h.after j (omega arith) (omega (arith, length-set ss f s)));
+      ap (passes t) (slot-other ss f j s other) ∙ h.after j (omega arith) (omega (arith, length-set ss f s)));
 }

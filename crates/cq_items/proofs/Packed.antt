@@ -6,7 +6,7 @@ use Rattle.std.proofs.lemmas.Bool.{cond-true, cond-false, or_left, or_right, or_
 use Rattle.std.proofs.lemmas.List.{append-nil, take_more, length_push}
 use Rattle.cq_items.specs.declared.item.Item.{Item}
 use Rattle.cq_items.specs.declared.outs.Held.{Held}
-use Rattle.cq_items.specs.Items.{out_for, undecided, is_out_to}
+use Rattle.cq_items.specs.Items.{out_for, is_out_to}
 use Rattle.cq_items.specs.Slots.{slot_at, passes, alive, places}
 use Rattle.cq_items.specs.Line.{put_in}
 use Rattle.cq_items.specs.Outs.{find}
@@ -25,68 +25,68 @@ fewer-closed [] = omega arith
 fewer-closed (None ∷ ss) = omega (arith, fewer-closed ss)
 fewer-closed (Some i ∷ ss) = omega (arith, fewer-closed ss)
 
--- ---- what is decided
+-- ---- what passes a test from a place on
 
--- how many places stand before the first undecided one
-pub record IsClosed (ss : List (Option Item)) (f : ℕ) : Type 0 where
+-- how many places stand before the first one that passes
+pub record IsClosed (t : Item → Bool) (ss : List (Option Item)) (f : ℕ) : Type 0 where
   pub place : ℕ
   pub counts : place + length ss ≡ length (filter is_some ss) + f
-  pub split : IsSplit (filter is_some ss) place
+  pub split : IsSplit t (filter is_some ss) place
 
-split-before : (i : Item) (ss : List (Option Item)) (f : ℕ) → undecided i ≡ false → IsSplit ss f → (k : ℕ) → k < suc f → passes undecided (slot_at (Some i ∷ ss) k) ≡ false
-split-before i ss f n h zero l = n
-split-before i ss f n h (suc k) l = h.before k (omega arith)
+split-before : (t : Item → Bool) (i : Item) (ss : List (Option Item)) (f : ℕ) → t i ≡ false → IsSplit t ss f → (k : ℕ) → k < suc f → passes t (slot_at (Some i ∷ ss) k) ≡ false
+split-before t i ss f n h zero l = n
+split-before t i ss f n h (suc k) l = h.before k (omega arith)
 
-split-after : (i : Item) (ss : List (Option Item)) (f : ℕ) → IsSplit ss f → (k : ℕ) → suc f ≤ k → k < length (Some i ∷ ss) → passes undecided (slot_at (Some i ∷ ss) k) ≡ true
-split-after i ss f h zero a l = absurd (omega arith)
-split-after i ss f h (suc k) a l = h.after k (omega arith) (omega arith)
+split-after : (t : Item → Bool) (i : Item) (ss : List (Option Item)) (f : ℕ) → IsSplit t ss f → (k : ℕ) → suc f ≤ k → k < length (Some i ∷ ss) → passes t (slot_at (Some i ∷ ss) k) ≡ true
+split-after t i ss f h zero a l = absurd (omega arith)
+split-after t i ss f h (suc k) a l = h.after k (omega arith) (omega arith)
 
-split-all : (i : Item) (ss : List (Option Item)) → undecided i ≡ true → IsSplit ss 0 → (k : ℕ) → k < length (Some i ∷ ss) → passes undecided (slot_at (Some i ∷ ss) k) ≡ true
-split-all i ss u h zero l = u
-split-all i ss u h (suc k) l = h.after k (omega arith) (omega arith)
+split-all : (t : Item → Bool) (i : Item) (ss : List (Option Item)) → t i ≡ true → IsSplit t ss 0 → (k : ℕ) → k < length (Some i ∷ ss) → passes t (slot_at (Some i ∷ ss) k) ≡ true
+split-all t i ss u h zero l = u
+split-all t i ss u h (suc k) l = h.after k (omega arith) (omega arith)
 
-split-front : (i : Item) (ss : List (Option Item)) → undecided i ≡ true → IsSplit ss 0 → IsSplit (Some i ∷ ss) 0
-split-front i ss u h = record {
+split-front : (t : Item → Bool) (i : Item) (ss : List (Option Item)) → t i ≡ true → IsSplit t ss 0 → IsSplit t (Some i ∷ ss) 0
+split-front t i ss u h = record {
   within = omega arith;
   before = λ k l. absurd (omega arith);
-  after = λ k a l. split-all i ss u h k l;
+  after = λ k a l. split-all t i ss u h k l;
 }
 
-more-undecided : (s : Option Item) (ss : List (Option Item)) (f : ℕ) → IsSplit (s ∷ ss) (suc f) → IsSplit ss f
-more-undecided s ss f h = record {
+pub more-split : (t : Item → Bool) (s : Option Item) (ss : List (Option Item)) (f : ℕ) → IsSplit t (s ∷ ss) (suc f) → IsSplit t ss f
+more-split t s ss f h = record {
   within = omega (arith, h.within);
   before = λ k l. h.before (suc k) (omega arith);
   after = λ k a l. h.after (suc k) (omega arith) (omega arith);
 }
 
-split-cons : (i : Item) (ss : List (Option Item)) (f : ℕ) → undecided i ≡ false → IsSplit ss f → IsSplit (Some i ∷ ss) (suc f)
-split-cons i ss f n h = record {
+split-cons : (t : Item → Bool) (i : Item) (ss : List (Option Item)) (f : ℕ) → t i ≡ false → IsSplit t ss f → IsSplit t (Some i ∷ ss) (suc f)
+split-cons t i ss f n h = record {
   within = omega (arith, h.within);
-  before = λ k l. split-before i ss f n h k l;
-  after = λ k a l. split-after i ss f h k a l;
+  before = λ k l. split-before t i ss f n h k l;
+  after = λ k a l. split-after t i ss f h k a l;
 }
 
-none-undecided : (s : Option Item) (ss : List (Option Item)) → IsSplit (s ∷ ss) 0 → IsSplit ss 0
-none-undecided s ss h = record {
+pub none-split : (t : Item → Bool) (s : Option Item) (ss : List (Option Item)) → IsSplit t (s ∷ ss) 0 → IsSplit t ss 0
+none-split t s ss h = record {
   within = omega arith;
   before = λ k l. absurd (omega arith);
   after = λ k a l. h.after (suc k) (omega arith) (omega arith);
 }
 
-pub closed : (ss : List (Option Item)) (f : ℕ) → IsSplit ss f → IsClosed ss f
-closed [] zero h = record { place = 0; counts = refl; split = h }
-closed [] (suc f) h = absurd (omega (arith, h.within))
-closed (None ∷ ss) zero h = let t : false ≡ true = h.after 0 (omega arith) (omega arith) in cc
-closed (Some i ∷ ss) zero h =
-    let c : IsClosed ss 0 = closed ss 0 (none-undecided (Some i) ss h) in
+pub closed : (t : Item → Bool) (ss : List (Option Item)) (f : ℕ) → IsSplit t ss f → IsClosed t ss f
+closed t [] zero h = record { place = 0; counts = refl; split = h }
+closed t [] (suc f) h = absurd (omega (arith, h.within))
+closed t (None ∷ ss) zero h = let n : false ≡ true = h.after 0 (omega arith) (omega arith) in cc
+closed t (Some i ∷ ss) zero h =
+    let c : IsClosed t ss 0 = closed t ss 0 (none-split t (Some i) ss h) in
     let none : c.place ≡ 0 = omega (arith, c.counts, fewer-closed ss) in
-    record { place = 0; counts = omega (arith, c.counts); split = split-front i (filter is_some ss) (h.after 0 (omega arith) (omega arith)) (subst (λ k. IsSplit (filter is_some ss) k) none c.split) }
-closed (None ∷ ss) (suc f) h =
-    let c : IsClosed ss f = closed ss f (more-undecided None ss f h) in
+    record { place = 0; counts = omega (arith, c.counts); split = split-front t i (filter is_some ss) (h.after 0 (omega arith) (omega arith)) (subst (λ k. IsSplit t (filter is_some ss) k) none c.split) }
+closed t (None ∷ ss) (suc f) h =
+    let c : IsClosed t ss f = closed t ss f (more-split t None ss f h) in
     record { place = c.place; counts = omega (arith, c.counts); split = c.split }
-closed (Some i ∷ ss) (suc f) h =
-    let c : IsClosed ss f = closed ss f (more-undecided (Some i) ss f h) in
-    record { place = suc c.place; counts = omega (arith, c.counts); split = split-cons i (filter is_some ss) c.place (h.before 0 (omega arith)) c.split }
+closed t (Some i ∷ ss) (suc f) h =
+    let c : IsClosed t ss f = closed t ss f (more-split t (Some i) ss f h) in
+    record { place = suc c.place; counts = omega (arith, c.counts); split = split-cons t i (filter is_some ss) c.place (h.before 0 (omega arith)) c.split }
 
 -- ---- who is out
 

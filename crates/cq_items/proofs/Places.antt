@@ -3,10 +3,10 @@ use Prim.Native.Nat.{zero, suc}
 use Rattle.std.proofs.Common.{◌≡◌, ◌≢◌, ℕ, ◌+◌, ◌<◌, ◌≤◌, Bool, true, false, cond, List, [], ◌∷◌, ◌++◌, length, get_or, set, refl, sym, ap, ◌∙◌, subst, arith, inl, inr}
 use Rattle.std.specs.Prelude.{nat_lt, filter, map, Option, None, Some}
 use Rattle.std.specs.List.{insert}
-use Rattle.std.proofs.lemmas.Bool.{cond-true, cond-false, cases_eq, lt-ltb, le-ltb}
+use Rattle.std.proofs.lemmas.Bool.{cond-true, cond-false, cases_eq, lt-ltb, le-ltb, both_ways}
 use Rattle.cq_items.specs.declared.item.Item.{Item}
 use Rattle.cq_items.specs.declared.item.Holder.{Holder}
-use Rattle.cq_items.specs.Items.{holding, waits, put_first, waiting_items}
+use Rattle.cq_items.specs.Items.{taken_by, waits, put_first, waiting_items}
 use Rattle.cq_items.specs.Line.{put_in}
 use Rattle.cq_items.specs.Slots.{slot_at, passes, alive, places}
 
@@ -57,15 +57,21 @@ pub record IsFirstPlace (n : ℕ) (ss : List (Option Item)) (k : ℕ) (rest : Li
   pub stands : slot_at ss k ≡ Some item
   pub waiting : waits item ≡ true
   pub left : (s : Option Item) → passes waits s ≡ false → places waits n (set ss k s) ≡ rest
-  pub handed : (h : Holder) → alive (set ss k (Some (holding (λ _. h) item))) ≡ put_first h (alive ss)
+  pub handed : (h : Holder) → alive (set ss k (Some (taken_by h item))) ≡ put_first h (alive ss)
   pub first : waiting_items (alive ss) ≡ item ∷ others
+  pub lowest : (j : ℕ) → passes waits (slot_at ss j) ≡ true → k ≤ j
+
+lowest-more : (s : Option Item) (ss : List (Option Item)) (k : ℕ) → passes waits s ≡ false → ((j : ℕ) → passes waits (slot_at ss j) ≡ true → k ≤ j)
+    → (j : ℕ) → passes waits (slot_at (s ∷ ss) j) ≡ true → suc k ≤ j
+lowest-more s ss k n low zero h = absurd (both_ways _ n h)
+lowest-more s ss k n low (suc j) h = omega (arith, low j h)
 
 first-place : (n : ℕ) (ss : List (Option Item)) (p : ℕ) (rest : List ℕ) → places waits n ss ≡ p ∷ rest → (k : ℕ) × ((p ≡ n + k) × IsFirstPlace n ss k rest)
 first-place n [] p rest e = cc
 first-place n (None ∷ ss) p rest e =
     let f = first-place (n + 1) ss p rest e in
     let g : IsFirstPlace (n + 1) ss f.0 rest = f.1.1 in
-    (suc f.0, (omega (arith, f.1.0), record { item = g.item; others = g.others; stands = g.stands; waiting = g.waiting; left = g.left; handed = g.handed; first = g.first }))
+    (suc f.0, (omega (arith, f.1.0), record { item = g.item; others = g.others; stands = g.stands; waiting = g.waiting; left = g.left; handed = g.handed; first = g.first; lowest = lowest-more None ss f.0 refl g.lowest }))
 first-place n (Some i ∷ ss) p rest e =
     (elim (waits i) as (λ b. waits i ≡ b → cond b (n ∷ places waits (n + 1) ss) (places waits (n + 1) ss) ≡ p ∷ rest → (k : ℕ) × ((p ≡ n + k) × IsFirstPlace n (Some i ∷ ss) k rest)) [
       | true ↦ λ w e. (
@@ -80,8 +86,9 @@ first-place n (Some i ∷ ss) p rest e =
                 stands = refl;
                 waiting = w;
                 left = λ s h. cond-false (passes waits s) (n ∷ places waits (n + 1) ss) (places waits (n + 1) ss) h ∙ after;
-                handed = λ h. sym (cond-true (waits i) (holding (λ _. h) i ∷ alive ss) (i ∷ put_first h (alive ss)) w);
+                handed = λ h. sym (cond-true (waits i) (taken_by h i ∷ alive ss) (i ∷ put_first h (alive ss)) w);
                 first = cond-true (waits i) (i ∷ waiting_items (alive ss)) (waiting_items (alive ss)) w;
+                lowest = λ j h. omega arith;
               },
             ),
           ))
@@ -97,8 +104,9 @@ first-place n (Some i ∷ ss) p rest e =
                 stands = g.stands;
                 waiting = g.waiting;
                 left = λ s h. cond-false (waits i) (n ∷ places waits (n + 1) (set ss f.0 s)) (places waits (n + 1) (set ss f.0 s)) w ∙ g.left s h;
-                handed = λ h. ap (λ (ys : List Item). i ∷ ys) (g.handed h) ∙ sym (cond-false (waits i) (holding (λ _. h) i ∷ alive ss) (i ∷ put_first h (alive ss)) w);
+                handed = λ h. ap (λ (ys : List Item). i ∷ ys) (g.handed h) ∙ sym (cond-false (waits i) (taken_by h i ∷ alive ss) (i ∷ put_first h (alive ss)) w);
                 first = cond-false (waits i) (i ∷ waiting_items (alive ss)) (waiting_items (alive ss)) w ∙ g.first;
+                lowest = lowest-more (Some i) ss f.0 w g.lowest;
               },
             ),
           ))
@@ -229,7 +237,7 @@ map-alive-set g (Some z ∷ ss) (suc k) x y e h = ap (λ (ws : List Item). g z �
 
 -- ---- how many pass a test, and which
 
-filter-slot : (t : Item → Bool) (s : Option Item) (ss : List (Option Item)) → passes t s ≡ false → filter t (alive (s ∷ ss)) ≡ filter t (alive ss)
+pub filter-slot : (t : Item → Bool) (s : Option Item) (ss : List (Option Item)) → passes t s ≡ false → filter t (alive (s ∷ ss)) ≡ filter t (alive ss)
 filter-slot t None ss h = refl
 filter-slot t (Some i) ss h = cond-false (t i) (i ∷ filter t (alive ss)) (filter t (alive ss)) h
 

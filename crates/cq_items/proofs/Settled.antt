@@ -109,7 +109,7 @@ indexed-settled ss ws held gone rest f k h e =
       waiting_is = places-set waits 0 ss k None (sym (ap (passes waits) s.stands ∙ gone-not-free x.holder parts.1)) ∙ h.waiting_is;
       finds_out = finds-same ss held k None h.finds_out l (λ c d. sym (ap (passes (out_for c d)) s.stands ∙ gone-not-out x.holder c d parts.1));
       gone_is = s.left;
-      is_split = splits-same ss f k None h.is_split l (sym (ap (passes undecided) s.stands ∙ ap not parts.0));
+      is_split = splits-same undecided ss f k None h.is_split l (sym (ap (passes undecided) s.stands ∙ ap not parts.0));
     }
 
 abbrev telling : Item → Left

@@ -13,8 +13,8 @@ use Rattle.cq_items.specs.declared.item.Stand.{Stand}
 use Rattle.cq_items.specs.declared.item.Holder.{Holder}
 use Rattle.cq_items.specs.declared.item.Holder.TheVariants.{Waiting, Out, Gone}
 use Rattle.cq_items.specs.declared.outs.Held.{Held}
-use Rattle.cq_items.specs.Items.{is_free, is_gone, is_out, is_with, ack_one, back_one, holding, waits, out_for, out_to, committed, undecided, settles, new_item, waiting_items, is_out_to, hand_out, ack, give_back, decide, count_out}
-use Rattle.cq_items.specs.Slots.{slot_at, held_by, passes, alive, places}
+use Rattle.cq_items.specs.Items.{is_free, is_gone, is_out, is_with, ack_one, back_one, holding, taken_by, waits, out_for, out_to, committed, undecided, settles, new_item, waiting_items, is_out_to, hand_out, ack, give_back, decide, count_out}
+use Rattle.cq_items.specs.Slots.{slot_at, held_by, handed_to, passes, alive, places}
 use Rattle.cq_items.specs.Outs.{find, Puts}
 use Rattle.cq_items.specs.Queue.{FindsOut, IsIndexed, HasRoom, IsRising, IsPlace}
 use Rattle.cq_items.specs.Line.{put_in}
@@ -43,7 +43,7 @@ indexed-published ss ws held gone f id len body h = record {
   waiting_is = places-push waits 0 ss (Some (new_item id body len)) ∙ ap (λ xs. xs ++ (0 + length ss) ∷ []) h.waiting_is ∙ ap (λ k. ws ++ k ∷ []) (omega arith);
   finds_out = finds-push ss held (Some (new_item id body len)) h.finds_out (λ c d. refl);
   gone_is = places-push settles 0 ss (Some (new_item id body len)) ∙ append-nil (places settles 0 ss) ∙ h.gone_is;
-  is_split = splits-push ss f (Some (new_item id body len)) h.is_split refl;
+  is_split = splits-push undecided ss f (Some (new_item id body len)) h.is_split refl;
 }
 
 -- ---- a delivery
@@ -55,24 +55,24 @@ pub first-within : (ss : List (Option Item)) (p : ℕ) (rest : List ℕ) → IsF
 first-within ss p rest f = passes-within waits ss p (ap (passes waits) f.stands ∙ f.waiting)
 
 pub indexed-delivered : (ss : List (Option Item)) (ws rest : List ℕ) (held after : List Held) (gone : List ℕ) (f p c d : ℕ) → IsIndexed ss ws held gone f → ws ≡ p ∷ rest
-    → find c d held ≡ None → Puts c d (Some p) held after → IsIndexed (set ss p (held_by (Out c d) (slot_at ss p))) rest after gone f
+    → find c d held ≡ None → Puts c d (Some p) held after → IsIndexed (set ss p (handed_to (Out c d) (slot_at ss p))) rest after gone f
 indexed-delivered ss ws rest held after gone f p c d h e none puts =
     let fp : IsFirstPlace 0 ss p rest = indexed-first ss ws rest held gone f p h e in
     let x : Item = fp.item in
-    let s : Option Item = Some (holding (λ _. Out c d) x) in
+    let s : Option Item = Some (taken_by (Out c d) x) in
     let l : p < length ss = first-within ss p rest fp in
-    subst (λ (s : Option Item). IsIndexed (set ss p s) rest after gone f) (sym (ap (held_by (Out c d)) fp.stands)) (record {
+    subst (λ (s : Option Item). IsIndexed (set ss p s) rest after gone f) (sym (ap (handed_to (Out c d)) fp.stands)) (record {
       waiting_is = fp.left s refl;
       finds_out = finds-put ss held after p c d s h.finds_out l (λ a b. ap (passes (out_for a b)) fp.stands ∙ free-not-out x.holder a b fp.waiting) (λ a b. refl) none puts;
       gone_is = places-set settles 0 ss p s (ap (λ b. (is_some x.stand) && b) (sym (free-not-gone x.holder fp.waiting)) ∙ sym (ap (passes settles) fp.stands)) ∙ h.gone_is;
-      is_split = splits-same ss f p s h.is_split l (sym (ap (passes undecided) fp.stands));
+      is_split = splits-same undecided ss f p s h.is_split l (sym (ap (passes undecided) fp.stands));
     })
 
 pub delivered-view : (ss : List (Option Item)) (ws rest : List ℕ) (held : List Held) (gone : List ℕ) (f p c d : ℕ) → IsIndexed ss ws held gone f → ws ≡ p ∷ rest
-    → alive (set ss p (held_by (Out c d) (slot_at ss p))) ≡ hand_out c d (alive ss)
+    → alive (set ss p (handed_to (Out c d) (slot_at ss p))) ≡ hand_out c d (alive ss)
 delivered-view ss ws rest held gone f p c d h e =
     let fp : IsFirstPlace 0 ss p rest = indexed-first ss ws rest held gone f p h e in
-    ap (λ (s : Option Item). alive (set ss p (held_by (Out c d) s))) fp.stands ∙ fp.handed (Out c d)
+    ap (λ (s : Option Item). alive (set ss p (handed_to (Out c d) s))) fp.stands ∙ fp.handed (Out c d)
 
 -- ---- an acknowledgement
 
@@ -91,7 +91,7 @@ indexed-acked ss ws held after gone f p c d h out puts =
       waiting_is = places-set waits 0 ss p s (sym (ap (passes waits) o.stands ∙ ap is_free o.holder)) ∙ h.waiting_is;
       finds_out = finds-released ss held after p c d s h.finds_out out (λ a b. refl) puts;
       gone_is = added;
-      is_split = splits-same ss f p s h.is_split o.within (sym (ap (passes undecided) o.stands));
+      is_split = splits-same undecided ss f p s h.is_split o.within (sym (ap (passes undecided) o.stands));
     })
 
 ack-stays : (h : Holder) (c d : ℕ) → is_out c d h ≡ false → ack_one c d h ≡ h
@@ -142,7 +142,7 @@ indexed-back ss ws now held after gone f p c d i h out puts place e =
       waiting_is = insert-place waits 0 ss p s i p (omega arith) o.within refl (ap (passes waits) o.stands ∙ ap is_free o.holder) pl.within pl.low pl.high ∙ ap (λ xs. insert xs i p) h.waiting_is ∙ sym e;
       finds_out = finds-released ss held after p c d s h.finds_out out (λ a b. refl) puts;
       gone_is = places-set settles 0 ss p s (ap (λ b. (is_some x.stand) && b) (sym (ap is_gone o.holder)) ∙ sym (ap (passes settles) o.stands)) ∙ h.gone_is;
-      is_split = splits-same ss f p s h.is_split o.within (sym (ap (passes undecided) o.stands));
+      is_split = splits-same undecided ss f p s h.is_split o.within (sym (ap (passes undecided) o.stands));
     })
 
 back-goes : (c d : ℕ) → back_one c (Out c d) ≡ Waiting
@@ -202,7 +202,7 @@ indexed-kept st ss ws held gone f x h a n = record {
   waiting_is = places-set waits 0 ss f (Some (decide st x)) (sym (ap (passes waits) a.stands)) ∙ h.waiting_is;
   finds_out = finds-same ss held f (Some (decide st x)) h.finds_out a.within (λ c d. sym (ap (passes (out_for c d)) a.stands));
   gone_is = places-set settles 0 ss f (Some (decide st x)) (n ∙ sym (ap (passes settles) a.stands ∙ and_left (is_some x.stand) (is_gone x.holder) a.undecided_is)) ∙ h.gone_is;
-  is_split = splits-more ss f (Some (decide st x)) h.is_split a.within refl;
+  is_split = splits-more undecided ss f (Some (decide st x)) h.is_split a.within refl;
 }
 
 pub indexed-left : (ss : List (Option Item)) (ws : List ℕ) (held : List Held) (gone : List ℕ) (f : ℕ) (x : Item) → IsIndexed ss ws held gone f → IsHeadAt ss f x → is_gone x.holder ≡ true
@@ -211,7 +211,7 @@ indexed-left ss ws held gone f x h a g = record {
   waiting_is = places-set waits 0 ss f None (sym (ap (passes waits) a.stands ∙ gone-not-free x.holder g)) ∙ h.waiting_is;
   finds_out = finds-same ss held f None h.finds_out a.within (λ c d. sym (ap (passes (out_for c d)) a.stands ∙ gone-not-out x.holder c d g));
   gone_is = places-set settles 0 ss f None (sym (ap (passes settles) a.stands ∙ and_left (is_some x.stand) (is_gone x.holder) a.undecided_is)) ∙ h.gone_is;
-  is_split = splits-more ss f None h.is_split a.within refl;
+  is_split = splits-more undecided ss f None h.is_split a.within refl;
 }
 
 pub indexed-skipped : (ss : List (Option Item)) (ws : List ℕ) (held after : List Held) (gone : List ℕ) (f c d : ℕ) (x : Item) → IsIndexed ss ws held gone f → IsHeadAt ss f x
@@ -220,7 +220,7 @@ indexed-skipped ss ws held after gone f c d x h a e out puts = record {
   waiting_is = places-set waits 0 ss f None (sym (ap (passes waits) a.stands ∙ ap is_free e)) ∙ h.waiting_is;
   finds_out = finds-released ss held after f c d None h.finds_out out (λ a b. refl) puts;
   gone_is = places-set settles 0 ss f None (sym (ap (passes settles) a.stands ∙ and_left (is_some x.stand) (is_gone x.holder) a.undecided_is)) ∙ h.gone_is;
-  is_split = splits-more ss f None h.is_split a.within refl;
+  is_split = splits-more undecided ss f None h.is_split a.within refl;
 }
 
 -- ---- what is read

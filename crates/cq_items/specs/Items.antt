@@ -39,7 +39,11 @@ back_one c h = h
 abbrev pub holding : (Holder → Holder) → Item → Item
 holding f i = record i { holder = f i.holder }
 
--- whether a message waits, is out for a delivery, is out to a client, isn't committed, is committed and acknowledged
+-- a message as it is handed out
+abbrev pub taken_by : Holder → Item → Item
+taken_by h i = record i { holder = h; fresh = false }
+
+-- whether a message waits, is out for a delivery, is out to a client, isn't committed, is committed and acknowledged, was never out
 abbrev pub waits : Item → Bool
 waits i = is_free i.holder
 
@@ -58,6 +62,9 @@ undecided i = not (is_some i.stand)
 abbrev pub settles : Item → Bool
 settles i = is_some i.stand && is_gone i.holder
 
+abbrev pub is_fresh : Item → Bool
+is_fresh i = i.fresh
+
 abbrev pub waiting_items : List Item → List Item
 waiting_items is = filter waits is
 
@@ -66,6 +73,10 @@ undecided_items is = filter undecided is
 
 abbrev pub settled_items : List Item → List Item
 settled_items is = filter settles is
+
+-- those that are committed and were never handed out
+abbrev pub fresh_items : List Item → List Item
+fresh_items is = filter (λ i. committed i && i.fresh) is
 
 -- the segment in which an entry stands, and its place there
 abbrev pub segment_of : Option Stand → ℕ
@@ -120,12 +131,16 @@ kind_of None = Shared
 kind_of (Some body) = Small
 
 abbrev pub new_item : ℕ → Option (List ℕ) → ℕ → Item
-new_item id body len = record { id = id; kind = kind_of body; len = len; body = body; stand = None; holder = Waiting }
+new_item id body len = record { id = id; kind = kind_of body; len = len; body = body; stand = None; holder = Waiting; fresh = true }
 
--- the first one that waits gets another holder
+-- a message as it was found in the files
+abbrev pub found_item : ℕ → EntryKind → ℕ → Stand → Item
+found_item id kind len stand = record { id = id; kind = kind; len = len; body = None; stand = Some stand; holder = Waiting; fresh = true }
+
+-- the first one that waits is handed to this holder
 abbrev pub put_first : Holder → List Item → List Item
 put_first h [] = []
-put_first h (i ∷ is) = if waits i then holding (λ _. h) i ∷ is else i ∷ put_first h is
+put_first h (i ∷ is) = if waits i then taken_by h i ∷ is else i ∷ put_first h is
 
 -- the first one that waits is out
 abbrev pub hand_out : ℕ → ℕ → List Item → List Item

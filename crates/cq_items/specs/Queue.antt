@@ -4,7 +4,7 @@ use Rattle.cq_items.specs.declared.item.Item.{Item}
 use Rattle.cq_items.specs.declared.outs.Held.{Held}
 use Rattle.cq_items.specs.declared.item.Settling.{Settling}
 use Rattle.cq_items.specs.declared.items.settling.Left.{Left}
-use Rattle.cq_items.specs.Items.{waits, out_for, is_out_to, undecided, settles, give_back, count_out, settled_items, segment_of, at_of, lowest_segment, settling_in, others_in, settling_places, settling_ids}
+use Rattle.cq_items.specs.Items.{waits, out_for, is_out_to, undecided, is_fresh, settles, give_back, count_out, settled_items, segment_of, at_of, lowest_segment, settling_in, others_in, settling_places, settling_ids}
 use Rattle.cq_items.specs.Slots.{slot_at, passes, places}
 use Rattle.cq_items.specs.Outs.{find}
 
@@ -18,11 +18,16 @@ pub record FindsOut (slots : List (Option Item)) (held : List Held) : Type 0 whe
   pub found : (k c d : ℕ) → passes (out_for c d) (slot_at slots k) ≡ true → find c d held ≡ Some k
   pub there : (c d k : ℕ) → find c d held ≡ Some k → passes (out_for c d) (slot_at slots k) ≡ true
 
--- from this place on all is undecided, and nothing before it
-pub record IsSplit (slots : List (Option Item)) (first : ℕ) : Type 0 where
+-- from this place on all passes a test, and nothing before it
+pub record IsSplit (t : Item → Bool) (slots : List (Option Item)) (first : ℕ) : Type 0 where
   pub within : first ≤ length slots
-  pub before : (k : ℕ) → k < first → passes undecided (slot_at slots k) ≡ false
-  pub after : (k : ℕ) → first ≤ k → k < length slots → passes undecided (slot_at slots k) ≡ true
+  pub before : (k : ℕ) → k < first → passes t (slot_at slots k) ≡ false
+  pub after : (k : ℕ) → first ≤ k → k < length slots → passes t (slot_at slots k) ≡ true
+
+-- from this place on nothing was ever out, so that it waits, and before it all was
+pub record IsUnseen (slots : List (Option Item)) (unseen : ℕ) : Type 0 where
+  pub split : IsSplit is_fresh slots unseen
+  pub waiting : IsSplit (λ i. i.fresh && waits i) slots unseen
 
 -- no two messages are out for one delivery
 abbrev pub AreOutOnce : List Item → Type 0
@@ -33,7 +38,7 @@ pub record IsIndexed (slots : List (Option Item)) (waiting : List ℕ) (held : L
   pub waiting_is : places waits 0 slots ≡ waiting
   pub finds_out : FindsOut slots held
   pub gone_is : places settles 0 slots ≡ gone
-  pub is_split : IsSplit slots first
+  pub is_split : IsSplit undecided slots first
 
 -- there is room for what waits to be handed out, for what is out to come back or be acknowledged, and for what is reserved
 pub record HasRoom (slots waiting out gone reserved slots_room waiting_room out_room gone_room : ℕ) : Type 0 where

@@ -3,6 +3,7 @@ use Rattle.std.specs.Prelude.{ℕ, ◌+◌, Bool, false, if◌then◌else◌, Li
 use Rattle.cq_items.specs.declared.item.Item.{Item}
 use Rattle.cq_items.specs.declared.item.Holder.{Holder}
 use Rattle.cq_items.specs.declared.item.Stand.{Stand}
+use Rattle.cq_items.specs.Items.{taken_by}
 
 -- what stands at a place
 abbrev pub slot_at : List (Option Item) → ℕ → Option Item
@@ -12,6 +13,11 @@ slot_at slots k = slice_index_or slots k None
 abbrev pub held_by : Holder → Option Item → Option Item
 held_by h None = None
 held_by h (Some i) = Some (record i { holder = h })
+
+-- the message handed to this holder
+abbrev pub handed_to : Holder → Option Item → Option Item
+handed_to h None = None
+handed_to h (Some i) = Some (taken_by h i)
 
 -- where the entry of the message there stands
 abbrev pub stand_of : Option Item → Option Stand

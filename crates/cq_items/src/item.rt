@@ -36,6 +36,8 @@ pub struct Item {
     /// Where its entry and its record stand, once it is committed.
     pub stand: Option<Stand>,
     pub holder: Holder,
+    /// Whether it was never handed out.
+    pub fresh: bool,
 }
 
 /// What a queue hands out next.

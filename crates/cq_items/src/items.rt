@@ -1,5 +1,5 @@
 // A queue in memory.
-ghost use Rattle.cq_items.specs.Items.{ack, committed, first_of, give_back, hand_out, is_out_to, kind_of, new_item, waiting_items};
+ghost use Rattle.cq_items.specs.Items.{ack, committed, first_of, found_item, fresh_items, give_back, hand_out, is_out_to, kind_of, new_item, undecided_items, waiting_items};
 ghost use Rattle.cq_items.specs.Line.{put_in};
 ghost use Rattle.cq_items.specs.Slots.{passes};
 ghost use Rattle.cq_items.specs.Queue.{GaveOne};
@@ -13,8 +13,8 @@ mod settling;
 use crate::heap::Heap;
 use crate::line::Line;
 use crate::outs::Outs;
-use crate::slots::set_holder;
-use crate::{First, Holder, Item};
+use crate::slots::{hand_to, set_holder};
+use crate::{First, Holder, Item, Stand};
 use cq_bytes::Body;
 use cq_entry::EntryKind;
 use std::alloc::{AllocError, Global};
@@ -33,6 +33,8 @@ pub struct Items {
     gone: Heap,
     /// The place from which on nothing is decided.
     first: usize,
+    /// The place from which on nothing was ever handed out.
+    unseen: usize,
     /// How many places were emptied since they were closed up last; it only tells when to do so again.
     empty: usize,
     reserved: usize,
@@ -42,14 +44,15 @@ impl Model for Items {
     ghost use Rattle.std.specs.Prelude.{length};
     ghost use Rattle.std.specs.VecDeque.{deque_capacity};
     ghost use Rattle.cq_items.specs.Slots.{alive};
-    ghost use Rattle.cq_items.specs.Queue.{Queue, IsIndexed, HasRoom};
+    ghost use Rattle.cq_items.specs.Queue.{Queue, IsIndexed, IsUnseen, HasRoom};
 
     ghost Value = { Queue };
 
     ghost view = { λ q. record { items = alive q.slots.items; reserved = q.reserved } };
 
     ghost invariant = { λ q. IsIndexed q.slots.items q.waiting.items q.outs.held q.gone.items q.first
-        × HasRoom (length q.slots.items) (length q.waiting.items) (length q.outs.held) (length q.gone.items) q.reserved (deque_capacity q.slots) q.waiting.room q.outs.room q.gone.room };
+        × HasRoom (length q.slots.items) (length q.waiting.items) (length q.outs.held) (length q.gone.items) q.reserved (deque_capacity q.slots) q.waiting.room q.outs.room q.gone.room
+        × IsUnseen q.slots.items q.unseen };
 }
 
 /// How a message with this body is stored: small where the body was given.
@@ -86,6 +89,7 @@ impl Items {
             outs: Outs::new(alloc),
             gone: Heap::new(alloc),
             first: 0,
+            unseen: 0,
             empty: 0,
             reserved: 0,
         }
@@ -121,8 +125,30 @@ impl Items {
             body,
             stand: None,
             holder: Holder::Waiting,
+            fresh: true,
         }));
         self.waiting.push(at);
+        self.reserved = 0;
+    }
+
+    /// Adds a message that stands in the files at the end of the queue, where nothing is undecided. It takes no memory.
+    pub fn restore(&mut self, id: u128, kind: EntryKind, len: u32, stand: Stand)
+        requires reserved { 0 < self.old.reserved }
+        requires decided { undecided_items self.old.items ≡ [] }
+        ensures { self.new ≡ record { items = self.old.items ++ found_item id kind len stand ∷ []; reserved = 0 } }
+    {
+        let at = self.slots.len();
+        self.slots.push_back_reserved(Some(Item {
+            id,
+            kind,
+            len,
+            body: None,
+            stand: Some(stand),
+            holder: Holder::Waiting,
+            fresh: true,
+        }));
+        self.waiting.push(at);
+        self.first = self.slots.len();
         self.reserved = 0;
     }
 
@@ -134,6 +160,16 @@ impl Items {
             Some(at) => self.slots[at].as_ref(),
             None => None,
         }
+    }
+
+    /// The committed message at this place among those that were never handed out, in line order. `None` exactly past the last.
+    pub fn fresh_item(&self, at: usize) -> Option<&Item>
+        ensures { option_copied result ≡ slice_get (fresh_items self.now.items) at }
+    {
+        if at >= self.first.saturating_sub(self.unseen) {
+            return None;
+        }
+        self.slots[self.unseen + at].as_ref()
     }
 
     /// What is told of the message that is handed out next. `None` exactly where nothing waits.
@@ -172,8 +208,9 @@ impl Items {
     {
         match self.waiting.pop() {
             Some(at) => {
-                set_holder(&mut self.slots, at, Holder::Out { client, delivery });
+                hand_to(&mut self.slots, at, Holder::Out { client, delivery });
                 self.outs.put(client, delivery, at);
+                self.unseen = self.unseen.max(at + 1);
             }
             None => {}
         }

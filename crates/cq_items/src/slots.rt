@@ -1,6 +1,6 @@
 // The places of a queue's messages.
 ghost use Rattle.cq_items.specs.Items.{decide};
-ghost use Rattle.cq_items.specs.Slots.{held_by, slot_at, stand_of};
+ghost use Rattle.cq_items.specs.Slots.{handed_to, held_by, slot_at, stand_of};
 ghost use Rattle.std.specs.VecDeque.{deque_capacity};
 ghost use Rattle.std.specs.Prelude.{◌≡◌, ◌<◌, ◌≤◌, length, filter, slice_set, None, is_some, option_map};
 
@@ -15,6 +15,18 @@ pub(crate) fn set_holder(slots: &mut VecDeque<Option<Item>>, at: usize, holder: 
 {
     if let Some(item) = &mut slots[at] {
         item.holder = holder;
+    }
+}
+
+/// Hands the message at a place to this holder.
+pub(crate) fn hand_to(slots: &mut VecDeque<Option<Item>>, at: usize, holder: Holder)
+    requires { at < length slots.old.items }
+    ensures slots { slots.new.items ≡ slice_set slots.old.items at (handed_to holder (slot_at slots.old.items at)) }
+    ensures capacity { deque_capacity slots.new ≡ deque_capacity slots.old }
+{
+    if let Some(item) = &mut slots[at] {
+        item.holder = holder;
+        item.fresh = false;
     }
 }
 

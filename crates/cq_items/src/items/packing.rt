@@ -105,8 +105,10 @@ impl Items {
         ensures { self.new ≡ self.old }
     {
         let undecided = self.slots.len() - self.first;
+        let unseen = self.slots.len() - self.unseen;
         close_up(&mut self.slots);
         self.first = self.slots.len() - undecided;
+        self.unseen = self.slots.len() - unseen;
         renumber(
             &self.slots,
             &mut self.waiting,

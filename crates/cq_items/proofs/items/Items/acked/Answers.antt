@@ -3,10 +3,11 @@ use Rattle.std.specs.Prelude.{None, Option}
 use Rattle.std.proofs.lemmas.List.{get_or_read}
 use Rattle.cq_items.specs.declared.item.Item.{Item}
 use Rattle.cq_items.specs.declared.item.Holder.TheVariants.{Gone}
-use Rattle.cq_items.specs.Items.{committed}
+use Rattle.cq_items.specs.Items.{committed, waits, is_free}
 use Rattle.cq_items.specs.Line.{put_in}
 use Rattle.cq_items.specs.Slots.{slot_at, held_by, passes, alive}
 use Rattle.cq_items.proofs.Steps.{IsOutAt, out-at, indexed-acked, acked-view, acked-none, room-enough, length-noted}
+use Rattle.cq_items.proofs.Unseen.{unseen-held}
 use Rattle.cq_items.proofs.items.Items.acked.Goals as goal
 
 pub index-requires : goal.index-requires
@@ -28,6 +29,7 @@ invariant_of-self c =
       room-enough c.self.invariant.1 _ _ _ _ _ _ _ _ _ (omega (arith, same)) (omega (arith, c.in-Some.ensures.took.2))
           (omega (arith, c.in-Some.ensures.took.2, ap length noted, length-noted (passes committed (slot_at ss p)) c.self.inside.gone.items p))
           (omega (arith, c.set_holder.ensures.capacity)) (omega arith) (omega (arith, c.take.ensures.room)) (omega (arith, c.note_gone.ensures.room)),
+      rw c.set_holder.ensures.slots (unseen-held ss c.self.inside.unseen p Gone c.self.invariant.2 o.within (ap (passes waits) o.stands ∙ ap is_free o.holder)),
     )
 
 pub returns-in-Some : goal.returns-in-Some

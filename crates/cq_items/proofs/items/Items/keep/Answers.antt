@@ -6,6 +6,7 @@ use Rattle.cq_items.specs.Slots.{slot_at, alive}
 use Rattle.cq_items.specs.Queue.{Queue}
 use Rattle.cq_items.proofs.Steps.{room-enough}
 use Rattle.cq_items.proofs.Decided.{head-kept, indexed-committed, committed-view}
+use Rattle.cq_items.proofs.Unseen.{unseen-committed}
 use Rattle.cq_items.proofs.items.Items.keep.Goals as goal
 
 pub commit-requires : goal.commit-requires
@@ -18,6 +19,7 @@ invariant_of-self c =
     let same : length c.commit.new.slots.items ≡ length ss = ap length c.commit.ensures.slots ∙ length-set ss c.self.inside.first (option_map (decide c.args.stand) (slot_at ss c.self.inside.first)) in (
       rw c.commit.ensures.slots (indexed-committed c.args.stand _ _ _ _ _ t.0.item c.self.invariant.0 t.0.head t.1),
       room-enough c.self.invariant.1 _ _ _ _ _ _ _ _ _ (omega (arith, same)) (omega arith) (omega arith) (omega (arith, c.commit.ensures.capacity)) (omega arith) (omega arith) (omega arith),
+      rw c.commit.ensures.slots (unseen-committed ss c.self.inside.unseen c.self.inside.first c.args.stand c.self.invariant.2 t.0.head.within),
     )
 
 pub returns : goal.returns

@@ -2,11 +2,12 @@ use Rattle.std.proofs.Common.{◌≡◌, List, length, sym, ap, ◌∙◌, subst
 use Rattle.std.specs.Prelude.{Option, None}
 use Rattle.cq_items.specs.declared.item.Item.{Item}
 use Rattle.cq_items.specs.declared.item.Holder.TheVariants.{Gone}
-use Rattle.cq_items.specs.Items.{is_gone, IsHeldBy, undecided_items}
-use Rattle.cq_items.specs.Slots.{alive}
+use Rattle.cq_items.specs.Items.{waits, is_free, is_gone, IsHeldBy, undecided_items}
+use Rattle.cq_items.specs.Slots.{passes, alive}
 use Rattle.cq_items.specs.Queue.{Queue}
 use Rattle.cq_items.proofs.Steps.{indexed-left, room-enough}
 use Rattle.cq_items.proofs.Decided.{head-held, leave-view}
+use Rattle.cq_items.proofs.Unseen.{unseen-left}
 use Rattle.cq_items.proofs.items.Items.leave_gone.Goals as goal
 
 pub empty-requires : goal.empty-requires
@@ -19,6 +20,7 @@ invariant_of-self c =
     let same : length c.empty.new.slots.items ≡ length ss = ap length c.empty.ensures.slots ∙ length-set ss c.self.inside.first None in (
       rw c.empty.ensures.slots (indexed-left _ _ _ _ _ t.0.item c.self.invariant.0 t.0.head (ap is_gone t.1)),
       room-enough c.self.invariant.1 _ _ _ _ _ _ _ _ _ (omega (arith, same)) (omega arith) (omega arith) (omega (arith, c.empty.ensures.capacity)) (omega arith) (omega arith) (omega arith),
+      rw c.empty.ensures.slots (unseen-left ss c.self.inside.unseen c.self.inside.first c.self.invariant.2 t.0.head.within (ap (passes waits) t.0.head.stands ∙ ap is_free t.1)),
     )
 
 pub returns : goal.returns

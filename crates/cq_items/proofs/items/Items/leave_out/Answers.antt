@@ -2,11 +2,12 @@ use Rattle.std.proofs.Common.{◌≡◌, List, length, sym, ap, ◌∙◌, subst
 use Rattle.std.specs.Prelude.{Option, None, Some}
 use Rattle.cq_items.specs.declared.item.Item.{Item}
 use Rattle.cq_items.specs.declared.item.Holder.TheVariants.{Out}
-use Rattle.cq_items.specs.Items.{IsHeldBy, undecided_items}
-use Rattle.cq_items.specs.Slots.{alive}
+use Rattle.cq_items.specs.Items.{waits, is_free, IsHeldBy, undecided_items}
+use Rattle.cq_items.specs.Slots.{passes, alive}
 use Rattle.cq_items.specs.Queue.{Queue}
 use Rattle.cq_items.proofs.Steps.{indexed-skipped, room-enough}
 use Rattle.cq_items.proofs.Decided.{head-held, head-out, leave-view}
+use Rattle.cq_items.proofs.Unseen.{unseen-left}
 use Rattle.cq_items.proofs.items.Items.leave_out.Goals as goal
 
 pub empty-requires : goal.empty-requires
@@ -20,6 +21,7 @@ invariant_of-self c =
       rw c.empty.ensures.slots (indexed-skipped _ _ _ c.take.new.self.held _ _ c.args.client c.args.delivery t.0.item c.self.invariant.0 t.0.head t.1
           (head-out _ _ _ _ _ t.0.item c.self.invariant.0.finds_out t.0.head t.1) c.in-Some.ensures.took.1),
       room-enough c.self.invariant.1 _ _ _ _ _ _ _ _ _ (omega (arith, same)) (omega (arith, c.in-Some.ensures.took.2)) (omega (arith, c.in-Some.ensures.took.2)) (omega (arith, c.empty.ensures.capacity)) (omega arith) (omega (arith, c.take.ensures.room)) (omega arith),
+      rw c.empty.ensures.slots (unseen-left ss c.self.inside.unseen c.self.inside.first c.self.invariant.2 t.0.head.within (ap (passes waits) t.0.head.stands ∙ ap is_free t.1)),
     )
 
 pub returns-in-Some : goal.returns-in-Some

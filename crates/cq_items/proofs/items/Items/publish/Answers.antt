@@ -1,4 +1,4 @@
-use Rattle.std.proofs.Common.{None, ◌≡◌, ◌<◌, List, [], ◌∷◌, ◌++◌, length, sym, ap, ◌∙◌, subst, arith}
+use Rattle.std.proofs.Common.{None, true, refl, ◌≡◌, ◌<◌, List, [], ◌∷◌, ◌++◌, length, sym, ap, ◌∙◌, subst, arith}
 use Rattle.std.specs.Prelude.{Some}
 use Rattle.std.proofs.lemmas.List.{length_push}
 use Rattle.cq_entry.specs.declared.entry.EntryKind.{EntryKind}
@@ -9,6 +9,7 @@ use Rattle.cq_items.specs.Slots.{alive}
 use Rattle.cq_items.specs.Queue.{Queue}
 use Rattle.cq_items.proofs.Places.{alive-push}
 use Rattle.cq_items.proofs.Steps.{indexed-published, room-enough}
+use Rattle.cq_items.proofs.Unseen.{unseen-published}
 use Rattle.cq_items.proofs.items.Items.publish.Goals as goal
 
 pub invariant_of-self : goal.invariant_of-self
@@ -19,10 +20,11 @@ invariant_of-self c =
       indexed-published c.self.inside.slots.items c.self.inside.waiting.items c.self.inside.outs.held c.self.inside.gone.items c.self.inside.first c.args.id c.args.len c.args.body c.self.invariant.0,
       room-enough c.self.invariant.1 _ _ _ _ _ _ _ _ _ (omega (arith, length_push c.self.inside.slots.items (Some (new_item c.args.id c.args.body c.args.len)))) (omega (arith, length_push c.self.inside.waiting.items (length c.self.inside.slots.items)))
           (omega (arith, length_push c.self.inside.waiting.items (length c.self.inside.slots.items))) (omega arith) (omega arith) (omega arith) (omega arith),
+      unseen-published c.self.inside.slots.items c.self.inside.unseen (new_item c.args.id c.args.body c.args.len) c.self.invariant.2 refl refl,
     )
 
 pub returns : goal.returns
 returns c = rw (← c.self.view_is) (ap (λ (is : List Item). record { items = is; reserved = 0 })
     (ap alive c.push_back_reserved.ensures.items
-    ∙ ap (λ (k : EntryKind). alive (c.self.inside.slots.items ++ Some (record { id = c.args.id; kind = k; len = c.args.len; body = c.args.body; stand = None; holder = Waiting }) ∷ [])) c.kind_of-kind.ensures
+    ∙ ap (λ (k : EntryKind). alive (c.self.inside.slots.items ++ Some (record { id = c.args.id; kind = k; len = c.args.len; body = c.args.body; stand = None; holder = Waiting; fresh = true }) ∷ [])) c.kind_of-kind.ensures
     ∙ alive-push c.self.inside.slots.items (new_item c.args.id c.args.body c.args.len)))

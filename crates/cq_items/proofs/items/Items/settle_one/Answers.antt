@@ -1,11 +1,15 @@
 use Rattle.std.proofs.Common.{◌≡◌, ◌+◌, ◌∷◌, List, ℕ, length, drop, refl, sym, ap, ◌∙◌, arith, subst, length-set}
-use Rattle.std.specs.Prelude.{Option, None, Some}
+use Rattle.std.specs.Prelude.{Option, None, Some, is_some}
+use Rattle.std.proofs.lemmas.Bool.{and_parts}
 use Rattle.std.proofs.lemmas.List.{get_or_read}
 use Rattle.cq_items.specs.declared.item.Item.{Item}
-use Rattle.cq_items.specs.Slots.{slot_at, alive}
+use Rattle.cq_items.specs.Items.{waits, is_gone}
+use Rattle.cq_items.specs.Slots.{slot_at, passes, alive}
 use Rattle.cq_items.specs.Queue.{Queue, left_in, HasLeft}
 use Rattle.cq_items.proofs.Steps.{headed, headless, room-enough}
+use Rattle.cq_items.proofs.Finds.{gone-not-free}
 use Rattle.cq_items.proofs.Settled.{IsNextPlace, next-at, next-within, none-in, indexed-settled, left-one, stays-one}
+use Rattle.cq_items.proofs.Unseen.{unseen-left}
 use Rattle.cq_items.proofs.items.Items.settle_one.Goals as goal
 
 pub index-requires : goal.index-requires
@@ -19,10 +23,13 @@ invariant_of-self c =
     let ss : List (Option Item) = c.self.inside.slots.items in
     let gone : List ℕ = c.self.inside.gone.items in
     let whole : gone ≡ c.in-Some.at ∷ drop 1 gone = headed gone c.in-Some.at (sym c.first.ensures ∙ c.in-Some.is) in
+    let next : IsNextPlace 0 ss c.in-Some.at (drop 1 gone) = next-at _ _ _ gone _ _ c.in-Some.at c.self.invariant.0 whole in
     let same : length c.empty.new.slots.items ≡ length ss = ap length c.empty.ensures.slots ∙ length-set ss c.in-Some.at None in
     let fewer : length gone ≡ length c.drop_first.new.self.items + 1 = omega (arith, ap length whole, ap length c.drop_first.ensures.items) in (
       rw (c.empty.ensures.slots, c.drop_first.ensures.items) (indexed-settled _ _ _ gone _ _ c.in-Some.at c.self.invariant.0 whole),
       room-enough c.self.invariant.1 _ _ _ _ _ _ _ _ _ (omega (arith, same)) (omega arith) (omega (arith, fewer)) (omega (arith, c.empty.ensures.capacity)) (omega arith) (omega arith) (omega (arith, c.drop_first.ensures.room)),
+      rw c.empty.ensures.slots (unseen-left ss c.self.inside.unseen c.in-Some.at c.self.invariant.2 (next-within _ _ _ next)
+          (ap (passes waits) next.stands ∙ gone-not-free next.item.holder (and_parts (is_some next.item.stand) (is_gone next.item.holder) next.settling).1)),
     )
 
 pub returns-in-Some-left_in : goal.returns-in-Some-left_in
