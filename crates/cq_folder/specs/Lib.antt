@@ -6,3 +6,4 @@ pub mod Holding
 pub mod Standing
 pub mod Laws
 pub mod HeldLaws
+pub mod Queue

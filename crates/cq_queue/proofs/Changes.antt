@@ -1,7 +1,7 @@
 -- The segments of a queue, as one of them changes.
 use Prim.Native.Nat.{zero, suc}
 use Rattle.std.proofs.Common.{Result, Ok, Err, OnOk, set, take, drop, ◌≡◌, ◌≢◌, ⊎_elim, ℕ, ◌+◌, ◌<◌, ◌≤◌, Bool, true, false, List, [], ◌∷◌, ◌++◌, Option, Some, None, Result, Ok, Err, IfOk, OnOk, OnErr, refl, sym, ap, ◌∙◌, subst, arith}
-use Rattle.std.specs.Prelude.{◌==◌, ◌||◌, nat_lt, slice_get}
+use Rattle.std.specs.Prelude.{◌==◌, ◌||◌, nat_lt, slice_get, OnSome, IfNone}
 use Rattle.std.proofs.lemmas.Bool.Decides.{nat_tests}
 use Rattle.std.specs.List.{AllByRecursion}
 use Rattle.std.proofs.lemmas.Bool.{ne_eqb, eq-eqb, or_parts, or_from, false≢true, cases_eq}
@@ -12,7 +12,8 @@ use Rattle.cq_small.specs.declared.store.SmallStore.{SmallStore}
 use Rattle.cq_index.specs.Places.{index_name}
 use Rattle.cq_index.proofs.Known.{filed_as}
 use Rattle.cq_queue.specs.declared.segment.QueueSegment.{QueueSegment}
-use Rattle.cq_queue.specs.Files.{IsSmallAt, IsIndexAt, IsGreatest}
+use Rattle.cq_folder.specs.Queue.{IsSmallAt, IsIndexAt}
+use Rattle.cq_queue.specs.Files.{IsGreatest}
 use Rattle.cq_queue.specs.QueueSegment.{IsNew, IsSame, KnowsFiles, OthersStay}
 use Rattle.cq_queue.specs.Lists.{has_number, AreAt, AreBelow, AreSame, AreSegments, Rise}
 use Rattle.cq_queue.proofs.Files.{apart}
@@ -232,7 +233,7 @@ pub same_push : (ps : List QueueSegment) (p r : QueueSegment) → IsSame p r →
 same_push [] p r same = (same, tt)
 same_push (q ∷ ps) p r same = (same_self q, same_push ps p r same)
 
-knows_same : (files : Name → Option File) (p r : QueueSegment) → IsSame p r → Knows files p → Knows files r
+pub knows_same : (files : Name → Option File) (p r : QueueSegment) → IsSame p r → Knows files p → Knows files r
 knows_same files p r same k =
     let small_same : small_name r.queue r.number ≡ small_name p.queue p.number = λ i. small_name (same.number.queue i) (same.number.number i) in
     let index_same : index_name r.queue r.number ≡ index_name p.queue p.number = λ i. index_name (same.number.queue i) (same.number.number i) in
@@ -305,6 +306,10 @@ lt_of a b test = grind (arith, nat_tests)
 pub either : {T E : Type 0} (r : Result T E) (A B C : Type 0) → OnOk r A → OnErr r B → (A → C) → (B → C) → C
 either (Ok v) A B C a b ok err = ok a
 either (Err e) A B C a b ok err = err b
+
+pub either_slot : {T : Type 0} (slot : Option T) (A B C : Type 0) → OnSome slot A → IfNone slot B → (A → C) → (B → C) → C
+either_slot (Some v) A B C a b some none = some a
+either_slot None A B C a b some none = none b
 
 -- the files of other queues are as they were
 pub other_queues : (queue : ℕ) (s : QueueSegment) (old new : Name → Option File) → s.queue ≡ queue → OthersStay s old new → (n : Name) → n.queue ≢ queue → new n ≡ old n

@@ -18,12 +18,13 @@ use Rattle.cq_folder.proofs.Names.{index_own, small_own}
 use Rattle.cq_entry.specs.declared.entry.EntryKind.{EntryKind}
 use Rattle.cq_entry.specs.declared.entry.EntryKind.TheVariants.{Small, Shared as SharedEntry}
 use Rattle.cq_queue.specs.Laid.{record_of, next_of, records_of, entry_of, entries_of, AreShelved, Lays}
-use Rattle.cq_queue.specs.Files.{content_in, IsGreatest, WillCome, HasRecords}
+use Rattle.cq_folder.specs.Queue.{content_in}
+use Rattle.cq_queue.specs.Files.{IsGreatest, WillCome, HasRecords}
 
-length_record : (body : List ℕ) → length (small_record body) ≡ length body + 5
+pub length_record : (body : List ℕ) → length (small_record body) ≡ length body + 5
 length_record body = length-append (to_be_bytes w32 (length body) ++ body) (255 ∷ []) ∙ ap (λ n. n + 1) (length-append (to_be_bytes w32 (length body)) body) ∙ omega arith
 
-first_record : (m : Message) (rest : List ℕ) → HasRecord (small_record m.body ++ rest) 0 m.body
+pub first_record : (m : Message) (rest : List ℕ) → HasRecord (small_record m.body ++ rest) 0 m.body
 first_record m rest = take_at (small_record m.body) rest (length m.body + 5) (length_record m.body)
 
 later_record : (m : Message) (rest : List ℕ) (offset : ℕ) (body : List ℕ) → HasRecord rest offset body → HasRecord (small_record m.body ++ rest) (length m.body + 5 + offset) body
@@ -33,7 +34,7 @@ later_record m rest offset body has =
     ∙ ap (take (length body + 5)) (drop-append-add (small_record m.body) rest offset)
     ∙ has
 
-rest_records : (kind : EntryKind) (content : List ℕ) (base : ℕ) (m : Message) (rest : List ℕ) → HasRecords base (record_of kind m ++ rest) content → HasRecords (next_of kind base (length m.body)) rest content
+pub rest_records : (kind : EntryKind) (content : List ℕ) (base : ℕ) (m : Message) (rest : List ℕ) → HasRecords base (record_of kind m ++ rest) content → HasRecords (next_of kind base (length m.body)) rest content
 rest_records Small content base m rest stand offset body has =
     let e : base + (length m.body + 5 + offset) ≡ base + length m.body + 5 + offset = omega arith in
     subst (λ place. StandsIn content place body) e (stand (length m.body + 5 + offset) body (later_record m rest offset body has))

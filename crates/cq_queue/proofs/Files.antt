@@ -21,7 +21,8 @@ use Rattle.cq_index.specs.Codec.{entry_len}
 use Rattle.cq_index.specs.Places.{Lists, IsIndexGate, index_name}
 use Rattle.cq_index.specs.Segments as index
 use Rattle.cq_folder.specs.Held.{IsSettled}
-use Rattle.cq_queue.specs.Files.{IsSmallAt, IsIndexAt, content_in, KeepsRecords, HasRecords}
+use Rattle.cq_folder.specs.Queue.{IsSmallAt, IsIndexAt, content_in}
+use Rattle.cq_queue.specs.Files.{KeepsRecords, HasRecords}
 
 abbrev IsIndex : Kind → Type 0
 IsIndex Index = Unit {0}

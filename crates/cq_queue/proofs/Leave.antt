@@ -29,7 +29,8 @@ use Rattle.cq_folder.specs.Folder.{AreEntries, present, Sharing, folder_of}
 use Rattle.cq_folder.specs.Holding.{StillHeld, AreAtPlaces, IsOver}
 use Rattle.cq_folder.proofs.Names.{index_own}
 use Rattle.cq_folder.proofs.KeptHeld.{keeps_held}
-use Rattle.cq_queue.specs.Files.{content_in, IsIndexAt, StaysHeld, StaysHeldOn, LosesHeld, LosesHeldOn}
+use Rattle.cq_folder.specs.Queue.{content_in, IsIndexAt}
+use Rattle.cq_queue.specs.Files.{StaysHeld, StaysHeldOn, LosesHeld, LosesHeldOn}
 use Rattle.cq_queue.proofs.Files.{apart}
 use Rattle.cq_queue.proofs.Runs.{Tells, held_laws, contents_read}
 

@@ -5,7 +5,8 @@ use Rattle.std.proofs.lemmas.Bool.{and_parts, false≢true}
 use Rattle.std.proofs.lemmas.Bool.Decides.{nat_tests}
 use Rattle.cq_queue.specs.declared.segment.QueueSegment.{QueueSegment}
 use Rattle.cq_queue.specs.QueueSegment.{is_empty, is_over, present_of}
-use Rattle.cq_queue.specs.Lists.{is_there, first_over}
+use Rattle.cq_queue.specs.Lists.{Rise, is_there, first_over}
+use Rattle.cq_queue.proofs.Searching.{RiseBy}
 use Rattle.cq_queue.proofs.Changes.{some_same}
 
 none_some : {A : Type 0} (a : A) → None ≡ Some a → ⊥
@@ -42,3 +43,8 @@ empty_of (k ∷ ks) is = absurd (false≢true is)
 
 pub over_empty : (later : Bool) (most : ℕ) (s : QueueSegment) → is_over later most s ≡ true → present_of s ≡ []
 over_empty later most s is = empty_of (present_of s) (and_parts (is_empty (present_of s)) _ is).0
+
+-- the numbers are keys that rise
+pub rise_by : (ps : List QueueSegment) → Rise ps → RiseBy (λ (s : QueueSegment). s.number) ps
+rise_by [] rise = tt
+rise_by (p ∷ ps) rise = (rise.0, rise_by ps rise.1)

@@ -22,7 +22,8 @@ use Rattle.cq_folder.specs.HeldLaws.{KeepsHeldOn}
 use Rattle.cq_folder.proofs.Images.{at_name, still_reads}
 use Rattle.cq_folder.proofs.Kept.{keeps_steady}
 use Rattle.cq_folder.proofs.KeptHeld.{keeps_held, keeps_held_on, held_wider}
-use Rattle.cq_queue.specs.Files.{content_in, StaysHeld, StaysHeldOn, WillCome, ComesHeld, ComesHeldOn}
+use Rattle.cq_folder.specs.Queue.{content_in}
+use Rattle.cq_queue.specs.Files.{StaysHeld, StaysHeldOn, WillCome, ComesHeld, ComesHeldOn}
 use Rattle.cq_queue.specs.QueueSegment.{TouchesOnly, SameContent}
 
 -- what holds of a disk that tells its files

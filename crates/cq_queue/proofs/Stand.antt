@@ -16,7 +16,8 @@ use Rattle.cq_index.specs.declared.segment.Segment.{Segment}
 use Rattle.cq_index.specs.Segments as index
 use Rattle.cq_index.specs.Opened.{piece_at}
 use Rattle.cq_index.specs.Places.{Adds, entry_at}
-use Rattle.cq_queue.specs.Files.{content_in, IsIndexAt, KeepsEntries, HasEntriesFrom, KeepsOtherEntries}
+use Rattle.cq_folder.specs.Queue.{content_in, IsIndexAt}
+use Rattle.cq_queue.specs.Files.{KeepsEntries, HasEntriesFrom, KeepsOtherEntries}
 use Rattle.cq_queue.proofs.Files.{index_length}
 
 pub keeps_entries : (old new more : List ℕ) → new ≡ old ++ more → KeepsEntries old new
@@ -34,7 +35,7 @@ none_some x e = cc
 some_same : {A : Type 0} (a b : A) → Some a ≡ Some b → a ≡ b
 some_same a b e = cc
 
-inside_get : {A : Type 0} (xs : List A) (i : ℕ) (x : A) → slice_get xs i ≡ Some x → i < length xs
+pub inside_get : {A : Type 0} (xs : List A) (i : ℕ) (x : A) → slice_get xs i ≡ Some x → i < length xs
 inside_get [] i x is = absurd (none_some x is)
 inside_get (y ∷ xs) zero x is = omega arith
 inside_get (y ∷ xs) (suc i) x is = omega (arith, inside_get xs i x is)
@@ -45,7 +46,7 @@ get_is (y ∷ xs) zero x is = some_same y x is
 get_is (y ∷ xs) (suc i) x is = get_is xs i x is
 
 -- an entry of a segment's content stands in its file
-entry_in : (segment : Segment) (f : File) → IsIndexAt segment (Some f) → index.IsOpen segment → (k : ℕ) → entry_len * k + entry_len ≤ length (content f.reads) → piece_at (content f.reads) k ≡ entry_at f.reads k
+pub entry_in : (segment : Segment) (f : File) → IsIndexAt segment (Some f) → index.IsOpen segment → (k : ℕ) → entry_len * k + entry_len ≤ length (content f.reads) → piece_at (content f.reads) k ≡ entry_at f.reads k
 entry_in segment f at some k inside = of_gate segment.gate refl some
   where
     of_gate : (o : Option Gate) → segment.gate ≡ o → IsSome o → piece_at (content f.reads) k ≡ entry_at f.reads k

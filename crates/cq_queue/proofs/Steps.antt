@@ -15,7 +15,8 @@ use Rattle.cq_index.specs.Segments as index
 use Rattle.cq_journal.specs.declared.event.Message.{Message}
 use Rattle.cq_folder.specs.Folder.{Sharing}
 use Rattle.cq_queue.specs.declared.segment.QueueSegment.{QueueSegment}
-use Rattle.cq_queue.specs.Files.{content_in, ComesHeld, ComesHeldOn, HasEntriesFrom, HasRecords, KeepsRecords, WillCome}
+use Rattle.cq_folder.specs.Queue.{content_in}
+use Rattle.cq_queue.specs.Files.{ComesHeld, ComesHeldOn, HasEntriesFrom, HasRecords, KeepsRecords, WillCome}
 use Rattle.cq_queue.specs.Laid.{Lays}
 use Rattle.cq_queue.specs.QueueSegment.{CanGrow, Commits, HasCommitted, HasIndex, HasListed, HasRecorded, HasSmall, IsLonger, IsMore, ListsOnly, SameContent, SameIndex, SameNumber, SameSmall, TouchesOnly, count_of, end_of, index_file, index_in, present_of, small_file, small_in, small_len}
 use Rattle.cq_queue.proofs.Come.{batch_comes}

@@ -1,5 +1,6 @@
 -- What the calls on the segments of a queue do.
-use Rattle.std.specs.Prelude.{◌≡◌, ℕ, ◌<◌, ◌≤◌, List, [], ◌∷◌, ◌++◌, length, slice_set, vec_len, vec_capacity}
+use Rattle.std.specs.Prelude.{◌≡◌, ℕ, ◌<◌, ◌≤◌, List, [], ◌∷◌, ◌++◌, length, slice_set}
+use Rattle.std.specs.VecDeque.{deque_len, deque_capacity}
 use Rattle.cq_queue.specs.declared.segment.QueueSegment.{QueueSegment}
 use Rattle.cq_queue.specs.declared.segments.Segments.{Segments}
 use Rattle.cq_queue.specs.QueueSegment.{SameNumber, SameSmall, IsMore, IsLess, CanLose, present_of, reserved_of}
@@ -17,7 +18,7 @@ list_of s = s.list.items
 
 -- there is memory for one more
 abbrev pub HasRoom : Segments → Type 0
-HasRoom s = vec_len s.list < vec_capacity s.list
+HasRoom s = deque_len s.list < deque_capacity s.list
 
 -- of the same queue, and as many entries for a segment at most
 pub record SameQueue (old new : Segments) : Type 0 where

@@ -17,22 +17,8 @@ use Rattle.cq_index.specs.Segments.{IsFiled}
 use Rattle.cq_journal.specs.declared.event.Message.{Message}
 use Rattle.cq_journal.specs.Lists.{HasDistinctIds}
 use Rattle.cq_folder.specs.Folder.{Sharing, folder_of}
-use Rattle.cq_folder.specs.Held.{bytes_in, content_of, IsSettled}
+use Rattle.cq_folder.specs.Queue.{content_in}
 use Rattle.cq_folder.specs.Holding.{HoldsSome, StillHeld, Come, IsAt, IsEither, LosesSome, joined, without}
-
--- the content of a file, and none where it isn't there
-abbrev pub content_in : Option File → List ℕ
-content_in file = content_of (bytes_in file)
-
--- the store knows its file, which is all on the disk
-pub record IsSmallAt (store : SmallStore) (slot : Option File) : Type 0 where
-  pub knows : IsSmallStore store slot
-  pub all : IsSettled slot
-
--- the index knows its file, which is all on the disk
-pub record IsIndexAt (index : Segment) (slot : Option File) : Type 0 where
-  pub knows : IsFiled index slot
-  pub all : IsSettled slot
 
 -- how many device calls a gated append takes: a file is made where none is there, and a header written where none is
 abbrev pub append_calls : Option Gate → ℕ

@@ -17,7 +17,8 @@ use Rattle.cq_index.specs.Segments as index
 use Rattle.cq_journal.specs.declared.event.Message.{Message}
 use Rattle.cq_folder.specs.Folder.{Sharing}
 use Rattle.cq_folder.specs.Holding.{AreAtPlaces}
-use Rattle.cq_queue.specs.Files.{content_in, IsSmallAt, IsIndexAt, append_calls, some_calls, file_calls, IsGreatest, StaysHeld, StaysHeldOn, ComesHeld, ComesHeldOn, LosesHeld, LosesHeldOn, WillCome, KeepsRecords, HasRecords, KeepsEntries, HasEntriesFrom, KeepsOtherEntries}
+use Rattle.cq_folder.specs.Queue.{content_in, IsSmallAt, IsIndexAt}
+use Rattle.cq_queue.specs.Files.{append_calls, some_calls, file_calls, IsGreatest, StaysHeld, StaysHeldOn, ComesHeld, ComesHeldOn, LosesHeld, LosesHeldOn, WillCome, KeepsRecords, HasRecords, KeepsEntries, HasEntriesFrom, KeepsOtherEntries}
 use Rattle.cq_queue.specs.Laid.{Lays}
 use Rattle.cq_queue.specs.declared.segment.QueueSegment.{QueueSegment}
 

@@ -42,7 +42,7 @@ impl QueueSegment {
     }
 
     /// The name of its file of a kind.
-    fn name(&self, kind: Kind) -> Name
+    pub(crate) fn name(&self, kind: Kind) -> Name
         ensures { result ≡ record { kind = kind; queue = queue_of self.now; number = number_of self.now } }
     {
         Name {

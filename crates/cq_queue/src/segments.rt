@@ -12,6 +12,7 @@ use cq_disk::{Disk, Fault};
 use cq_entry::Entry;
 use cq_small::SmallBatch;
 use std::alloc::{AllocError, Global};
+use std::collections::VecDeque;
 
 /// The segments of one queue, rising by number.
 ///
@@ -21,7 +22,9 @@ pub struct Segments {
     pub(crate) queue: u32,
     /// How many entries a segment gets at most.
     pub(crate) most: u32,
-    pub(crate) list: Vec<QueueSegment>,
+    /// Nearly all removals are near the front, since a queue's entries go about in the order in which they came; one in
+    /// the middle moves the segments of the shorter side.
+    pub(crate) list: VecDeque<QueueSegment>,
 
     ghost are: { AreSegments queue list.items } by { AreSegments-prop queue list.items },
 }
@@ -38,7 +41,7 @@ impl Segments {
         Segments {
             queue,
             most,
-            list: Vec::new(alloc),
+            list: VecDeque::new(alloc),
         }
     }
 
@@ -60,8 +63,8 @@ impl Segments {
         ensures { result ≡ place_in number (list_of self.now) }
     {
         self.list
-            .iter()
-            .position(|segment| segment.number == number)
+            .binary_search_by_key(&number, |segment| segment.number)
+            .ok()
     }
 
     /// Takes out the segment that the next entries join, with the memory for so many: the last one, if it has fewer than
@@ -78,13 +81,13 @@ impl Segments {
         ensures err { OnErr result (AreSame (list_of self.old) (list_of self.new)) }
     {
         self.list.reserve(1)?;
-        match self.list.pop() {
+        match self.list.pop_back() {
             Some(last) => {
                 if last.has_room(self.most) {
                     self.take_last(last, count)
                 } else {
                     let number = last.number + 1;
-                    self.list.push_reserved(last);
+                    self.list.push_back_reserved(last);
                     QueueSegment::with_room(alloc, self.queue, number, count)
                 }
             }
@@ -105,7 +108,7 @@ impl Segments {
         match last.reserve(count) {
             Ok(()) => Ok(last),
             Err(error) => {
-                self.list.push_reserved(last);
+                self.list.push_back_reserved(last);
                 Err(error)
             }
         }
@@ -136,7 +139,7 @@ impl Segments {
     {
         let mut segment = segment;
         segment.commit(disk, records, entries)?;
-        self.list.push_reserved(segment);
+        self.list.push_back_reserved(segment);
         Ok(())
     }
 
@@ -174,7 +177,10 @@ impl Segments {
         ensures calls { OnOk result ((p : TheSegment) → StandsAt (list_of self.old) index p
             → D.moment disk.new ≡ D.moment disk.old + removal_calls p) }
     {
-        let segment = self.list.remove(index);
-        segment.remove(disk)
+        match self.list.remove(index) {
+            Some(segment) => segment.remove(disk),
+            // No caller gives a place past the last one.
+            None => Ok(()),
+        }
     }
 }

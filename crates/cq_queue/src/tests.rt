@@ -72,7 +72,7 @@ fn take_away<D: Disk>(segments: &mut Segments, disk: &mut D, alloc: Global) -> R
     requires at { D.tells → AreAt (queue_of segments.old) (list_of segments.old) (D.files disk.old) }
 {
     let mut at = Vec::new(alloc);
-    let Some(segment) = segments.list.first() else {
+    let Some(segment) = segments.list.front() else {
         return Err(Fail::from(Unfit));
     };
     at.extend_from_slice(segment.present())?;

@@ -10,7 +10,7 @@ use Rattle.cq_index.specs.Places.{index_name, entries_bytes, Adds}
 use Rattle.cq_index.specs.Segments.{count_of, IsSegment}
 use Rattle.cq_index.proofs.Known.{filed, of_filed}
 use Rattle.cq_folder.proofs.Images.{step_part}
-use Rattle.cq_queue.specs.Files.{IsSmallAt, IsIndexAt}
+use Rattle.cq_folder.specs.Queue.{IsSmallAt, IsIndexAt}
 use Rattle.cq_queue.proofs.Files.{apart, all_settled, content_step, index_bare}
 use Rattle.cq_queue.proofs.Runs.{Tells, index_on, index_held}
 use Rattle.cq_queue.proofs.Stand.{new_entries}

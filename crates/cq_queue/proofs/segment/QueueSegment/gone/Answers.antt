@@ -7,7 +7,7 @@ use Rattle.cq_index.specs.Gone.{AreGone, StatusesOnly}
 use Rattle.cq_index.specs.Places.{index_name}
 use Rattle.cq_index.specs.Segments.{IsSegment}
 use Rattle.cq_index.proofs.Known.{filed, of_filed}
-use Rattle.cq_queue.specs.Files.{IsSmallAt, IsIndexAt}
+use Rattle.cq_folder.specs.Queue.{IsSmallAt, IsIndexAt}
 use Rattle.cq_queue.proofs.Files.{apart, all_settled}
 use Rattle.cq_queue.proofs.Stand.{gone_entries}
 use Rattle.cq_queue.proofs.Leave.{on_both, open_some, gone_on, gone_held}

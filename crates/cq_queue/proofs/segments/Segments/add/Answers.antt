@@ -16,7 +16,7 @@ commit-requires-clause-knows g c = λ told.
 pub invariant_of-self : goal.invariant_of-self
 invariant_of-self g c = let s = c.args.self.now in record {
   are =
-      subst (λ (ps : List QueueSegment). AreSegments s.queue ps) (sym c.push_reserved.ensures.items)
+      subst (λ (ps : List QueueSegment). AreSegments s.queue ps) (sym c.push_back_reserved.ensures.items)
       (parts_push s.queue s.list.items c.commit.new.self s.are (c.commit.ensures.same.queue ∙ c.requires.follows.own) (subst (λ (n : ℕ). AreBelow n s.list.items) (sym c.commit.ensures.same.number) c.requires.follows.next));
 }
 
@@ -24,5 +24,5 @@ pub returns-clause-at : goal.returns-clause-at
 returns-clause-at g c = λ told.
     let d = g.D.Disk in
     let s = c.args.self.now in
-    subst (λ (ps : List QueueSegment). AreAt s.queue ps (d.files c.commit.new.disk)) (sym c.push_reserved.ensures.items)
+    subst (λ (ps : List QueueSegment). AreAt s.queue ps (d.files c.commit.new.disk)) (sym c.push_back_reserved.ensures.items)
     (last_changed s.queue s.list.items c.args.segment c.commit.new.self (d.files c.args.disk.now) (d.files c.commit.new.disk) c.requires.follows.own c.commit.ensures.same.queue c.commit.ensures.same.number c.requires.follows.next (c.commit.ensures.touches told).others (c.in_ok-commit.ensures.knows told) (c.requires.at told))
