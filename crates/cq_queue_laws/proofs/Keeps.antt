@@ -18,11 +18,11 @@ use Rattle.cq_journal.proofs.Lists.{any-filter, filter-congr, filter-refine, dis
 use Rattle.cq_items.specs.declared.item.Item.{Item}
 use Rattle.cq_items.specs.declared.item.Holder.{Holder}
 use Rattle.cq_items.specs.declared.item.Holder.TheVariants.{Waiting, Out, Gone}
-use Rattle.cq_items.specs.Items.{is_free, ack_one, back_one, holding, new_item, hand_out, ack, give_back, waiting_items}
+use Rattle.cq_items.specs.Items.{is_free, ack_one, back_one, holding, taken_by, new_item, hand_out, ack, give_back, waiting_items}
 use Rattle.cq_queue_laws.specs.Follows.{outside, standing, Whereabouts, bare, stands, is_unsettled, Follows}
 use Rattle.cq_queue_laws.proofs.Standing.{standing-waits, outside-none, standing-acked, standing-dropped, standing-ended, standing-delivered, standing-quiet}
 
-map-congr : {A B : Type 0} (f g : A → B) → ((x : A) → f x ≡ g x) → (xs : List A) → map f xs ≡ map g xs
+pub map-congr : {A B : Type 0} (f g : A → B) → ((x : A) → f x ≡ g x) → (xs : List A) → map f xs ≡ map g xs
 map-congr f g h [] = refl
 map-congr f g h (x ∷ xs) = ap (λ y. y ∷ map f xs) (h x) ∙ ap (λ ys. g x ∷ ys) (map-congr f g h xs)
 
@@ -33,11 +33,11 @@ unsettled past q = filter (is_unsettled past q) (line past q)
 abbrev pub seated : (Holder → Holder) → Whereabouts → Whereabouts
 seated f p = record { id = p.id; holder = f p.holder }
 
-bare-map : (f : Holder → Holder) (is : List Item) → map bare (map (holding f) is) ≡ map (seated f) (map bare is)
+pub bare-map : (f : Holder → Holder) (is : List Item) → map bare (map (holding f) is) ≡ map (seated f) (map bare is)
 bare-map f [] = refl
 bare-map f (i ∷ is) = ap (λ (ys : List Whereabouts). record { id = i.id; holder = f i.holder } ∷ ys) (bare-map f is)
 
-stands-map : (past now : List Entry) (q : ℕ) (f : Holder → Holder) → ((x : ℕ) → standing now q x ≡ f (standing past q x)) → (ms : List Message) → map (stands now q) ms ≡ map (seated f) (map (stands past q) ms)
+pub stands-map : (past now : List Entry) (q : ℕ) (f : Holder → Holder) → ((x : ℕ) → standing now q x ≡ f (standing past q x)) → (ms : List Message) → map (stands now q) ms ≡ map (seated f) (map (stands past q) ms)
 stands-map past now q f h [] = refl
 stands-map past now q f h (m ∷ ms) =
     ap (λ (s : Holder). record { id = m.id; holder = s } ∷ map (stands now q) ms) (h m.id) ∙ ap (λ (ys : List Whereabouts). record { id = m.id; holder = f (standing past q m.id) } ∷ ys) (stands-map past now q f h ms)
@@ -147,7 +147,7 @@ hand_whereabouts c d (p ∷ ps) = cond (is_free p.holder) (seated (λ _. Out c d
 bare-hand_out : (c d : ℕ) (is : List Item) → map bare (hand_out c d is) ≡ hand_whereabouts c d (map bare is)
 bare-hand_out c d [] = refl
 bare-hand_out c d (i ∷ is) =
-    elim (is_free i.holder) as (λ b. map bare (cond b (holding (λ _. Out c d) i ∷ is) (i ∷ hand_out c d is)) ≡ cond b (seated (λ _. Out c d) (bare i) ∷ map bare is) (bare i ∷ hand_whereabouts c d (map bare is)))
+    elim (is_free i.holder) as (λ b. map bare (cond b (taken_by (Out c d) i ∷ is) (i ∷ hand_out c d is)) ≡ cond b (seated (λ _. Out c d) (bare i) ∷ map bare is) (bare i ∷ hand_whereabouts c d (map bare is)))
     [ true ↦ refl | false ↦ ap (λ (ps : List Whereabouts). bare i ∷ ps) (bare-hand_out c d is) ]
 
 first-other : (ms : List Message) (id x : ℕ) → IsFirst id ms → has_id ms x ≡ false → (id == x) ≡ false

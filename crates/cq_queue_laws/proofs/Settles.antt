@@ -78,7 +78,7 @@ one-less id ids is = filter-both (λ (i : Item). not (i.id == id)) (λ (i : Item
     ∙ filter_agree (λ (i : Item). cond (not (i.id == id)) (not (contains ids i.id)) false) (λ (i : Item). not (contains (id ∷ ids) i.id))
     (λ (i : Item). not-either (i.id == id) (contains ids i.id) ∙ ap (λ b. not (b || contains ids i.id)) (eqb-sym i.id id)) is
 
-settled-each : (ids : List ℕ) (items : List Item) (past : List Entry) (stamp q : ℕ) → Follows items past q → Follows (filter (λ i. not (contains ids i.id)) items) (with_settled ids stamp q past) q
+pub settled-each : (ids : List ℕ) (items : List Item) (past : List Entry) (stamp q : ℕ) → Follows items past q → Follows (filter (λ i. not (contains ids i.id)) items) (with_settled ids stamp q past) q
 settled-each [] items past stamp q f = subst (λ (is : List Item). Follows is past q) (sym (all-stay (λ x. false) items (λ x p. refl))) f
 settled-each (id ∷ ids) items past stamp q f =
     let e : Entry = record { event = event.Settled q id; stamp = stamp } in

@@ -7,7 +7,7 @@ use Rattle.cq_items.specs.declared.item.Item.{Item}
 use Rattle.cq_items.specs.declared.item.Stand.{Stand}
 use Rattle.cq_items.specs.declared.item.Holder.{Holder}
 use Rattle.cq_items.specs.declared.item.Holder.TheVariants.{Out}
-use Rattle.cq_items.specs.Items.{waits, is_gone, holding, settles, undecided, undecided_items, lowest_segment, is_in, others_in, others_items, new_item, hand_out, pass_first, skips, decide}
+use Rattle.cq_items.specs.Items.{waits, is_gone, holding, taken_by, settles, undecided, undecided_items, lowest_segment, is_in, others_in, others_items, new_item, hand_out, pass_first, skips, decide}
 
 pub undecided-publish : (items : List Item) (id len : ℕ) (held : Option (List ℕ)) → undecided_items (items ++ new_item id held len ∷ []) ≡ undecided_items items ++ new_item id held len ∷ []
 undecided-publish items id len held = filter-append (λ (i : Item). not (is_some i.stand)) items (new_item id held len ∷ [])
@@ -49,8 +49,8 @@ undecided-holding (i ∷ is) f =
 pub undecided-delivery : (items : List Item) (c d : ℕ) → ids (undecided_items (hand_out c d items)) ≡ ids (undecided_items items)
 undecided-delivery [] c d = refl
 undecided-delivery (i ∷ is) c d =
-    elim (waits i) as (λ w. ids (undecided_items (cond w (holding (λ _. Out c d) i ∷ is) (i ∷ hand_out c d is))) ≡ ids (cond (not (is_some i.stand)) (i ∷ undecided_items is) (undecided_items is))) [
-      | true ↦ elim (is_some i.stand) as (λ b. ids (cond (not b) (holding (λ _. Out c d) i ∷ undecided_items is) (undecided_items is)) ≡ ids (cond (not b) (i ∷ undecided_items is) (undecided_items is))) [ true ↦ refl | false ↦ refl ]
+    elim (waits i) as (λ w. ids (undecided_items (cond w (taken_by (Out c d) i ∷ is) (i ∷ hand_out c d is))) ≡ ids (cond (not (is_some i.stand)) (i ∷ undecided_items is) (undecided_items is))) [
+      | true ↦ elim (is_some i.stand) as (λ b. ids (cond (not b) (taken_by (Out c d) i ∷ undecided_items is) (undecided_items is)) ≡ ids (cond (not b) (i ∷ undecided_items is) (undecided_items is))) [ true ↦ refl | false ↦ refl ]
       | false ↦ elim (is_some i.stand) as (λ b. ids (cond (not b) (i ∷ undecided_items (hand_out c d is)) (undecided_items (hand_out c d is))) ≡ ids (cond (not b) (i ∷ undecided_items is) (undecided_items is)))
           [ true ↦ undecided-delivery is c d | false ↦ ap (λ xs. i.id ∷ xs) (undecided-delivery is c d) ]
     ]
