@@ -22,7 +22,7 @@ same_below n [] (q ∷ qs) same below = absurd same
 same_below n (p ∷ ps) [] same below = absurd same
 same_below n (p ∷ ps) (q ∷ qs) same below = (subst (λ (k : ℕ). k < n) (sym same.0.number.number) below.0, same_below n ps qs same.1 below.1)
 
-wider_below : (n : ℕ) (ps : List QueueSegment) → AreBelow n ps → AreBelow (n + 1) ps
+pub wider_below : (n : ℕ) (ps : List QueueSegment) → AreBelow n ps → AreBelow (n + 1) ps
 wider_below n [] below = tt
 wider_below n (p ∷ ps) below = (let lt = below.0 in omega (arith, lt), wider_below n ps below.1)
 

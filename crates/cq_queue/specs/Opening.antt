@@ -88,13 +88,15 @@ pub record IsFound (i : Item) : Type 0 where
   pub waits : i.holder ≡ Waiting
   pub fresh : i.fresh ≡ true
 
--- The queue of these files: it is running, its segments are these, and its messages are all committed and wait.
+-- The queue of these files: it is running, its segments are these, and its messages are those of their present entries,
+-- in order, and all wait.
 pub record IsOpened (of_queue of_most : ℕ) (indexes : List Segment) (smalls : List SmallStore) (v : QueueValue) : Type 0 where
   pub running : IsRunning v
   pub queue : v.queue ≡ of_queue
   pub most : v.most ≡ of_most
   pub reserved : v.reserved ≡ 0
   pub joined : AreJoined indexes smalls v.segments
+  pub listing : standing_at v.items ≡ listed v.segments
   pub found : AllByRecursion IsFound v.items
 
 -- ---- what refuses it

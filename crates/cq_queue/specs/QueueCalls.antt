@@ -1,5 +1,5 @@
 -- What a queue's calls on its files do.
-use Rattle.std.specs.Prelude.{◌≡◌, ℕ, ◌+◌, ◌-◌, ◌^◌, Bool, false, true, nat_lt, List, [], ◌∷◌, ◌++◌, length, map, take, drop, slice_get, Option, Some, None, IsSome, is_some, if◌then◌else◌}
+use Rattle.std.specs.Prelude.{◌≡◌, ℕ, ◌+◌, ◌-◌, ◌^◌, Bool, false, true, nat_lt, List, [], ◌∷◌, ◌++◌, length, map, take, drop, slice_get, slice_set, Option, Some, None, IsSome, is_some, if◌then◌else◌}
 use Rattle.std.specs.List.{AllZip, list_any}
 use Rattle.cq_disk.specs.declared.name.Name.{Name}
 use Rattle.cq_disk.specs.declared.disk.Disk.{Ghosts}
@@ -19,7 +19,7 @@ use Rattle.cq_queue.specs.declared.error.QueueError.{QueueError}
 use Rattle.cq_queue.specs.declared.error.QueueError.TheVariants.{Fault, Memory, Damaged}
 use Rattle.cq_queue.specs.Files.{StaysHeld, StaysHeldOn, ComesHeld, ComesHeldOn, LosesHeld, LosesHeldOn}
 use Rattle.cq_queue.specs.Laid.{AreShelved}
-use Rattle.cq_queue.specs.QueueSegment.{IsMore, SameNumber, count_of, small_calls, index_calls, removal_calls}
+use Rattle.cq_queue.specs.QueueSegment.{IsLess, IsMore, SameNumber, count_of, small_calls, index_calls, removal_calls}
 use Rattle.cq_queue.specs.Lists.{AreBelow, AreSame, IsPicked, StandsAt, first_over, place_in}
 use Rattle.cq_queue.specs.Passing.{Suits, MaySkip, passed_of, kept_items, kept_of, commit_items, bytes_of}
 use Rattle.cq_queue.specs.Tied.{Pick, pick_of, room_of, OtherFilesStay}
@@ -128,10 +128,26 @@ calls_to_commit skip v = calls_to_join (joining v.most v.segments) (kept_in skip
 
 -- ---- a settling
 
+-- the segment of this number no longer lists the entries at these places, and each other one is as it was
+pub record HasSettledIn (n : ℕ) (at : List ℕ) (old new : List QueueSegment) : Type 0 where
+  pub i : ℕ
+  pub segment : QueueSegment
+  pub less : QueueSegment
+  pub stands : StandsAt old i segment
+  pub number : segment.number ≡ n
+  pub list : new ≡ slice_set old i less
+  pub is : IsLess segment less at
+
+-- the segments after a settling; where nothing settles, they are as they were
+abbrev pub HaveSettled : Option ℕ → List ℕ → List QueueSegment → List QueueSegment → Type 0
+HaveSettled None at old new = new ≡ old
+HaveSettled (Some n) at old new = HasSettledIn n at old new
+
 -- the entries of exactly these ids are no longer present, and their messages have left the queue
 pub record HasSettled (old : QueueValue) (ids : List ℕ) (new : QueueValue) : Type 0 where
   pub ids_are : ids ≡ settling_ids old.items
   pub items : new.items ≡ others_items old.items
+  pub segments : HaveSettled (lowest_segment old.items) (settling_places old.items) old.segments new.segments
   pub same : IsSameQueue old new
 
 -- No file of another queue changes; and a crash at any moment leaves what was held, or without some of what settles.

@@ -14,8 +14,8 @@ pub enum QueueError {
     /// There is no memory; nothing has changed.
     #[error("there is no memory for the queue")]
     Memory,
-    /// An entry that was read isn't of the form: the file, the place of the first byte that is wrong, and that byte. It
-    /// never comes where the disk tells its files.
+    /// An entry that was read isn't of the form, or its record lies outside of its small store: the file, the place of the
+    /// first byte that is wrong, and that byte. It never comes where the disk tells its files.
     #[error("byte {1} of {0:?} is {2}, which breaks the form")]
     Damaged(Name, u64, u8),
 }

@@ -1,7 +1,8 @@
 // Undecided entries that are passed, and those of them that join the queue's files.
-ghost use Rattle.std.specs.Prelude.{◌≡◌, ◌+◌, ◌≤◌, IfOk, IfErr, OnOk, IsErrOf};
+ghost use Rattle.std.specs.Prelude.{◌≡◌, ◌+◌, ℕ, IfOk, IfErr, OnOk, IsErrOf};
 ghost use Rattle.cq_disk.specs.Run.{Ran};
 ghost use Rattle.cq_queue.specs.declared.error.QueueError.TheVariants.{Fault as queue_fault};
+ghost use Rattle.cq_queue.specs.Lists.{AreBelow};
 
 use super::planning::{Plan, pass_all, plan_of};
 use crate::{QueueCore, QueueError};
@@ -27,6 +28,8 @@ impl QueueCore {
         requires can { CanPass (value_of self.old) skip.now }
         requires at { D.tells → IsOnDisk (value_of self.old) (D.files disk.old) }
         ensures ok { IfOk result (λ passed. HasPassed skip.now (value_of self.old) passed.items (value_of self.new)) }
+        ensures numbers { OnOk result ((n : ℕ) → AreBelow n (value_of self.old).segments
+            → AreBelow (n + 1) (value_of self.new).segments) }
         ensures err { IfErr result (Leaves (value_of self.old) (value_of self.new) (disk.new ≡ disk.old)) }
         ensures at { D.tells → IsRunning (value_of self.new) → IsOnDisk (value_of self.new) (D.files disk.new) }
         ensures held { OnOk result (D.tells → KeptAreHeld D.Disk skip.now (value_of self.old) disk.old disk.new) }
@@ -55,7 +58,6 @@ impl QueueCore {
     /// What a commit passes and writes.
     fn plan(&self, skip: &[u128]) -> Result<Plan, AllocError>
         requires running { IsRunning (value_of self.now) }
-        requires few { (value_of self.now).most ≤ 4096 }
         ensures { IfOk result (IsPlanned skip.now (value_of self.now)) }
     {
         let alloc = *self.segments.list.allocator();

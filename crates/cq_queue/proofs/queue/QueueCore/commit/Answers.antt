@@ -4,7 +4,7 @@ use Rattle.std.proofs.lemmas.Bool.{eqb-false, eqb-true}
 use Rattle.cq_entry.specs.declared.entry.Entry.{Entry as IndexEntry}
 use Rattle.cq_items.specs.declared.item.Item.{Item}
 use Rattle.cq_items.specs.Queue.{Queue}
-use Rattle.cq_queue.specs.Lists.{AreAt}
+use Rattle.cq_queue.specs.Lists.{AreAt, AreBelow}
 use Rattle.cq_queue.specs.QueueCalls.{committed_in, kept_in, pick_in, room_in}
 use Rattle.cq_queue.specs.QueueSegment.{CanCommit, Commits, HasCommitted, IsMore}
 use Rattle.cq_queue.specs.Tied.{AreInPlace, IsTied}
@@ -14,6 +14,7 @@ use Rattle.cq_queue.proofs.Committed.{commit_anywhere}
 use Rattle.cq_queue.proofs.Picked.{picked_is}
 use Rattle.cq_queue.proofs.Runs.{Tells}
 use Rattle.cq_queue.proofs.Unmoved.{at_all_same, below_more, places_none, tied_none, tied_same}
+use Rattle.cq_queue.proofs.Trying.{picked_below, wider_below}
 use Rattle.cq_queue.proofs.queue.QueueCore.commit.Goals as goal
 
 pub returns-in_err-plan-clause-err : goal.returns-in_err-plan-clause-err
@@ -56,6 +57,9 @@ returns-then-is_empty-clause-ok g c =
       segments = joined_none v.queue v.most v.segments (kept_in skip v) none;
       same = record { reserved = ap (λ (q : Queue). q.reserved) passes; queue = refl; most = refl; running = c.requires.can.running };
     }
+
+pub returns-then-is_empty-clause-numbers : goal.returns-then-is_empty-clause-numbers
+returns-then-is_empty-clause-numbers g c = λ n below. wider_below n (value_of c.args.self.now).segments below
 
 pub returns-then-is_empty-clause-at : goal.returns-then-is_empty-clause-at
 returns-then-is_empty-clause-at g c = λ told.
@@ -228,6 +232,12 @@ returns-clause-ok g c =
       segments = has_joined skip v plan planned tied.ready segment pick s.few some c.take.new.self.list.items c.add.new.self.list.items has.last taken.picked has.list has.number is;
       same = record { reserved = ap (λ (q : Queue). q.reserved) passes; queue = queue; most = c.add.ensures.same.most ∙ same.most; running = refl };
     }
+
+pub returns-clause-numbers : goal.returns-clause-numbers
+returns-clause-numbers g c = λ n below.
+    let s = c.args.self.now in
+    let has = c.in_ok-add.ensures.shown in
+    subst (AreBelow (n + 1)) (sym has.list) (picked_below s.segments.queue s.segments.most n s.segments.list.items c.take.new.self.list.items c.in_ok-segment.segment has.last c.in_ok-segment.ensures.taken.picked has.number.number below)
 
 pub returns-clause-at : goal.returns-clause-at
 returns-clause-at g c = λ told.
