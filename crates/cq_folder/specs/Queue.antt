@@ -40,6 +40,22 @@ abbrev pub RiseAs : (ℕ → Name) → List Name → Type 0
 RiseAs name_at [] = Unit {0}
 RiseAs name_at (n ∷ names) = (n ≡ name_at n.number) × AllByRecursion (λ m. n.number < m.number) names × RiseAs name_at names
 
+-- the places of a segment's entries, each with the segment's number
+abbrev pub listed_in : ℕ → List ℕ → List (ℕ × ℕ)
+listed_in n [] = []
+listed_in n (k ∷ ks) = (n, k) ∷ listed_in n ks
+
+-- these are open indexes of a queue, rising by number
+pub record AreIndexes (queue : ℕ) (segments : List Segment) : Type 0 where
+  pub rise : RiseAs (index_name queue) (indexes_of segments)
+  pub are_open : AllByRecursion index.IsOpen segments
+
+-- these are open small stores of a queue, rising by number, each with the number of one of these indexes
+pub record AreStores (queue : ℕ) (segments : List Segment) (stores : List SmallStore) : Type 0 where
+  pub rise : RiseAs (small.small_name queue) (stores_of stores)
+  pub are_open : AllByRecursion small.IsOpen stores
+  pub matched : AllByRecursion (λ n. has_number (indexes_of segments) n.number ≡ true) (stores_of stores)
+
 -- Each index is open, and knows its file, which is all on the disk; no other index of the queue is there.
 pub record AreIndexesAt (queue : ℕ) (segments : List Segment) (files : Name → Option File) : Type 0 where
   pub each : AllByRecursion (λ s. IsIndexAt s (files (index.name_of s))) segments

@@ -87,6 +87,7 @@ impl SmallStore {
     pub fn open<D: Disk>(disk: &mut D, queue: u32, number: u64) -> Result<SmallStore, GateError>
         requires { D.tells → IsSome (D.files disk.old (small_name queue number)) }
         ensures name { IfOk result (λ store. name_of store ≡ small_name queue number) }
+        ensures is_open { IfOk result IsOpen }
         ensures store { IfOk result
             (λ store. D.tells → IsThere (D.files disk.new (small_name queue number)) (IsOpened store)) }
         ensures damaged { IfErr result (λ error. IfDamaged error (IsDamaged D.Disk (small_name queue number) disk.old)) }
