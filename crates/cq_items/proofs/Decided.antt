@@ -4,7 +4,7 @@ use Rattle.std.proofs.Common.{◌≡◌, ◌≢◌, ℕ, ◌+◌, ◌<◌, ◌�
 use Rattle.std.specs.Prelude.{is_some, ◌==◌, ◌||◌, Option, None, Some, slice_get, option_map}
 use Rattle.std.proofs.lemmas.Bool.{cond-true, cond-false, not-true, and_from, eq-eqb, cases_lt}
 use Rattle.std.proofs.lemmas.List.{drop_more, get_or_read}
-use Rattle.cq_items.specs.declared.item.Item.{Item}
+use Rattle.cq_items.specs.Item.{Item}
 use Rattle.cq_items.specs.declared.item.Stand.{Stand}
 use Rattle.cq_items.specs.declared.item.Passed.{Passed}
 use Rattle.cq_items.specs.declared.item.Holder.{Holder}

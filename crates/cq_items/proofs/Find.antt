@@ -1,58 +1,13 @@
--- Where a delivery stands among those that are out.
+-- Where a delivery is in a list that has each once, and what edits of such a list leave.
 use Prim.Native.Nat.{zero, suc}
-use Rattle.std.proofs.Common.{◌≡◌, ◌≢◌, ℕ, ◌<◌, ◌≤◌, Bool, true, false, cond, List, [], ◌∷◌, length, get_or, set, refl, sym, ap, ◌∙◌, subst, arith, inl, inr, ◌⊎◌}
-use Rattle.std.specs.Prelude.{◌==◌, ◌&&◌, ◌||◌, nat_lt, Option, None, Some}
-use Rattle.std.specs.List.{list_any, insert, remove, AllByRecursion}
-use Rattle.std.specs.List.Sorted.{IsPartitionedBy}
-use Rattle.std.proofs.lemmas.Bool.{cond-true, cond-false, or_parts, or_from, or_cases, or_left, or_right, and_from, and_parts, and_left, eq-eqb, eqb-true, ne_eqb, cases_eq, cases_lt, cases_Bool, both_ways, ltb-true, ltb-false, lt-ltb}
-use Rattle.std.proofs.lemmas.List.Folds.{list_any_at}
-use Rattle.std.proofs.lemmas.List.Edits.{length-remove}
-use Rattle.std.proofs.lemmas.List.{get_or_default}
+use Rattle.std.proofs.Common.{◌≡◌, ℕ, ◌+◌, ◌-◌, ◌<◌, ◌≤◌, Bool, true, false, cond, List, [], ◌∷◌, ◌++◌, length, set, refl, sym, ap, ◌∙◌, subst, arith, inl, inr, ◌⊎◌, length-append, length-set, length-take, get_or-set_same, get_or-set_other}
+use Rattle.std.specs.Prelude.{◌==◌, ◌&&◌, Option, None, Some, is_some}
+use Rattle.std.proofs.lemmas.Bool.{cond-true, cond-false, and_from, and_left, and_parts, eq-eqb, eqb-true, ne_eqb, cases_eq, cases_lt, cases_Bool, both_ways}
+use Rattle.std.proofs.lemmas.List.{get_or_append_left, get_or_push, get_or-take}
 use Rattle.cq_items.specs.declared.outs.Held.{Held}
-use Rattle.cq_items.specs.OutsValue.{is_held, comes_before, AreSorted}
+use Rattle.cq_items.specs.OutsValue.{is_held, held_at, no_delivery, AreOnce}
 use Rattle.cq_items.specs.Outs.{find, Puts, Took, TookOne}
-
--- before this place stands what comes before a delivery, and nothing else
-pub record IsBound (c d : ℕ) (hs : List Held) (i : ℕ) : Type 0 where
-  pub within : i ≤ length hs
-  pub low : (k : ℕ) (x : Held) → k < i → comes_before c d (get_or hs k x) ≡ true
-  pub high : (k : ℕ) (x : Held) → i ≤ k → k < length hs → comes_before c d (get_or hs k x) ≡ false
-
--- a delivery stands there
-abbrev pub StandsAt : ℕ → ℕ → List Held → ℕ → Type 0
-StandsAt c d hs i = (i < length hs) × ((x : Held) → is_held c d (get_or hs i x) ≡ true)
-
--- ---- the order of deliveries
-
--- what the test says of one delivery, and what gives it
-before-cases : (a b c d : ℕ) → (nat_lt a c || (a == c && nat_lt b d)) ≡ true → (a < c) ⊎ ((a ≡ c) × (b < d))
-before-cases a b c d h = elim (or_cases _ _ h) [
-  | inl l ↦ inl (ltb-true a c l)
-  | inr e ↦ (let parts = and_parts _ _ e in inr (eqb-true a c parts.0, ltb-true b d parts.1))
-]
-
-before-not : (a b c d : ℕ) → (nat_lt a c || (a == c && nat_lt b d)) ≡ false → (c < a) ⊎ ((a ≡ c) × (d ≤ b))
-before-not a b c d h =
-    let parts = or_parts _ _ h in
-    elim (cases_eq a c) [
-      | inl same ↦ inr (
-        same,
-        elim (cases_lt b d) [
-          | inl l ↦ absurd (both_ways _ parts.1 (and_from _ _ (eq-eqb a c same) (lt-ltb b d l)))
-          | inr g ↦ g
-        ],
-      )
-      | inr other ↦ inl (let g : c ≤ a = ltb-false a c parts.0 in omega arith)
-    ]
-
-before-less : (a b c d : ℕ) → a < c → (nat_lt a c || (a == c && nat_lt b d)) ≡ true
-before-less a b c d l = or_left _ _ (lt-ltb a c l)
-
-before-same : (a b c d : ℕ) → a ≡ c → b < d → (nat_lt a c || (a == c && nat_lt b d)) ≡ true
-before-same a b c d e l = or_right _ _ (and_from _ _ (eq-eqb a c e) (lt-ltb b d l))
-
-abbrev precedes : Held → Held → Bool
-precedes h k = comes_before k.client k.delivery h
+use Rattle.cq_items.specs.Tree.{is_wanted, IsFound, IsTaken}
 
 held-same : (c d : ℕ) (h : Held) → is_held c d h ≡ true → (h.client ≡ c) × (h.delivery ≡ d)
 held-same c d h e = let parts = and_parts _ _ e in (eqb-true h.client c parts.0, eqb-true h.delivery d parts.1)
@@ -60,300 +15,338 @@ held-same c d h e = let parts = and_parts _ _ e in (eqb-true h.client c parts.0,
 held-from : (c d : ℕ) (h : Held) → h.client ≡ c → h.delivery ≡ d → is_held c d h ≡ true
 held-from c d h a b = and_from _ _ (eq-eqb h.client c a) (eq-eqb h.delivery d b)
 
-precedes-trans : (c d : ℕ) (h k : Held) → precedes h k ≡ true → comes_before c d k ≡ true → comes_before c d h ≡ true
-precedes-trans c d h k p q =
-    elim (before-cases h.client h.delivery k.client k.delivery p) [
-      | inl l ↦ elim (before-cases k.client k.delivery c d q) [
-        | inl m ↦ before-less h.client h.delivery c d (omega arith)
-        | inr m ↦ before-less h.client h.delivery c d (omega arith)
-      ]
-      | inr l ↦ elim (before-cases k.client k.delivery c d q) [
-        | inl m ↦ before-less h.client h.delivery c d (omega arith)
-        | inr m ↦ before-same h.client h.delivery c d (l.0 ∙ m.0) (omega arith)
-      ]
+-- two that are this delivery are the same one
+held-both : (c d : ℕ) (h k : Held) → is_held c d h ≡ true → is_held c d k ≡ true → is_held k.client k.delivery h ≡ true
+held-both c d h k e f =
+    let p = held-same c d h e in
+    let q = held-same c d k f in
+    held-from k.client k.delivery h (p.0 ∙ sym q.0) (p.1 ∙ sym q.1)
+
+-- ---- what a search of the list finds
+
+once-tail : (h : Held) (hs : List Held) → AreOnce (h ∷ hs) → AreOnce hs
+once-tail h hs a i j l m e = let s : suc i ≡ suc j = a (suc i) (suc j) (omega arith) (omega arith) e in omega arith
+
+pub found-at : (hs : List Held) (i c d : ℕ) → AreOnce hs → i < length hs → is_held c d (held_at hs i) ≡ true → find c d hs ≡ Some (held_at hs i).at
+found-at [] i c d a l e = absurd (omega arith)
+found-at (h ∷ hs) zero c d a l e = cond-true (is_held c d h) (Some h.at) (find c d hs) e
+found-at (h ∷ hs) (suc i) c d a l e =
+    elim (cases_Bool (is_held c d h)) [
+      | inl t ↦ (let s : 0 ≡ suc i = a 0 (suc i) (omega arith) l (held-both c d h (held_at hs i) t e) in absurd (omega arith))
+      | inr f ↦ cond-false (is_held c d h) (Some h.at) (find c d hs) f ∙ found-at hs i c d (once-tail h hs a) (omega arith) e
     ]
 
--- a delivery that comes before isn't this one
-before-other : (c d : ℕ) (h : Held) → comes_before c d h ≡ true → is_held c d h ≡ false
-before-other c d h p = elim (cases_Bool (is_held c d h)) [
-  | inr f ↦ f
-  | inl t ↦ (
-      let s = held-same c d h t in
-      elim (before-cases h.client h.delivery c d p) [ inl l ↦ absurd (omega arith) | inr l ↦ absurd (omega arith) ])
-]
+pub none-find : (hs : List Held) (c d : ℕ) → ((i : ℕ) → i < length hs → is_held c d (held_at hs i) ≡ false) → find c d hs ≡ None
+none-find [] c d n = refl
+none-find (h ∷ hs) c d n = cond-false (is_held c d h) (Some h.at) (find c d hs) (n 0 (omega arith)) ∙ none-find hs c d (λ i l. n (suc i) (omega arith))
 
--- one that neither comes before nor is this one comes after
-after-other : (c d : ℕ) (h : Held) (k : Held) → k.client ≡ c → k.delivery ≡ d → comes_before c d h ≡ false → is_held c d h ≡ false → precedes k h ≡ true
-after-other c d h k e f p n =
-    elim (before-not h.client h.delivery c d p) [
-      | inl l ↦ before-less k.client k.delivery h.client h.delivery (omega arith)
-      | inr l ↦ elim (cases_eq h.delivery d) [
-        | inl same ↦ absurd (both_ways _ n (held-from c d h l.0 same))
-        | inr other ↦ before-same k.client k.delivery h.client h.delivery (e ∙ sym l.0) (omega arith)
-      ]
-    ]
+none-tail : (h : Held) (hs : List Held) (c d : ℕ) → is_held c d h ≡ false → ((i : ℕ) → i < length hs → is_held c d (held_at hs i) ≡ false) → (i : ℕ) → i < length (h ∷ hs) → is_held c d (held_at (h ∷ hs) i) ≡ false
+none-tail h hs c d f n zero l = f
+none-tail h hs c d f n (suc i) l = n i (omega arith)
 
--- what comes after one that doesn't come before isn't this one
-later-other : (c d : ℕ) (h : Held) → comes_before c d h ≡ false → (hs : List Held) → AllByRecursion (λ k. precedes h k ≡ true) hs → list_any (is_held c d) hs ≡ false
-later-other c d h p [] a = refl
-later-other c d h p (k ∷ hs) a =
-    or_from _ _ (elim (cases_Bool (is_held c d k)) [
-      | inr f ↦ f
-      | inl t ↦ (
-          let s = held-same c d k t in
-          let q : comes_before c d h ≡ true = subst (λ x. comes_before x d h ≡ true) s.0 (subst (λ y. comes_before k.client y h ≡ true) s.1 a.0) in
-          absurd (both_ways _ p q))
-    ]) (later-other c d h p hs a.1)
-
--- ---- the sorted list has each once
-
-pub any-none : (c d : ℕ) (hs : List Held) → list_any (is_held c d) hs ≡ false → find c d hs ≡ None
-any-none c d [] n = refl
-any-none c d (h ∷ hs) n = let parts = or_parts _ _ n in cond-false (is_held c d h) (Some h.at) (find c d hs) parts.0 ∙ any-none c d hs parts.1
-
-pub none-any : (c d : ℕ) (hs : List Held) → find c d hs ≡ None → list_any (is_held c d) hs ≡ false
-none-any c d [] e = refl
-none-any c d (h ∷ hs) e =
-    (elim (is_held c d h) as (λ b. is_held c d h ≡ b → cond b (Some h.at) (find c d hs) ≡ None → list_any (is_held c d) (h ∷ hs) ≡ false) [
+pub find-none : (hs : List Held) (c d : ℕ) → find c d hs ≡ None → (i : ℕ) → i < length hs → is_held c d (held_at hs i) ≡ false
+find-none [] c d e i l = absurd (omega arith)
+find-none (h ∷ hs) c d e i l =
+    (elim (is_held c d h) as (λ b. is_held c d h ≡ b → cond b (Some h.at) (find c d hs) ≡ None → is_held c d (held_at (h ∷ hs) i) ≡ false) [
       | true ↦ λ _ e. cc
-      | false ↦ λ f e. or_from _ _ f (none-any c d hs e)
+      | false ↦ λ f e. none-tail h hs c d f (find-none hs c d e) i l
     ]) refl e
 
-self-not-before : (h : Held) → precedes h h ≡ false
-self-not-before h = elim (cases_Bool (precedes h h)) [
+pub find-some : (hs : List Held) (c d a : ℕ) → find c d hs ≡ Some a → (i : ℕ) × (i < length hs) × (is_held c d (held_at hs i) ≡ true)
+find-some [] c d a e = cc
+find-some (h ∷ hs) c d a e =
+    (elim (is_held c d h) as (λ b. is_held c d h ≡ b → cond b (Some h.at) (find c d hs) ≡ Some a → (i : ℕ) × (i < suc (length hs)) × (is_held c d (held_at (h ∷ hs) i) ≡ true)) [
+      | true ↦ λ t e. (0, omega arith, t)
+      | false ↦ λ f e. (let s = find-some hs c d a e in (suc s.0, (let l = s.1 in omega arith), s.2))
+    ]) refl e
+
+-- ---- lists that differ in one delivery
+
+apart : (x y c d : ℕ) (z : Held) → (x == c && y == d) ≡ false → is_held x y z ≡ true → is_held c d z ≡ false
+apart x y c d z n e = elim (cases_Bool (is_held c d z)) [
   | inr f ↦ f
-  | inl t ↦ elim (before-cases h.client h.delivery h.client h.delivery t) [ inl l ↦ absurd (omega arith) | inr l ↦ absurd (omega arith) ]
+  | inl t ↦ (
+      let p = held-same x y z e in
+      let q = held-same c d z t in
+      absurd (both_ways _ n (and_from (x == c) (y == d) (eq-eqb x c (sym p.0 ∙ q.0)) (eq-eqb y d (sym p.1 ∙ q.1)))))
 ]
 
-key-once : (h : Held) (hs : List Held) → AllByRecursion (λ k. precedes h k ≡ true) hs → list_any (is_held h.client h.delivery) hs ≡ false
-key-once h hs a = later-other h.client h.delivery h (self-not-before h) hs a
+-- each other delivery of one list is in the other one
+abbrev pub Has : ℕ → ℕ → List Held → List Held → Type 0
+Has c d hs ks = (i : ℕ) → i < length hs → is_held c d (held_at hs i) ≡ false → (j : ℕ) × (j < length ks) × (held_at ks j ≡ held_at hs i)
 
--- ---- the place where a delivery belongs
+others-by : (c d : ℕ) (old new : List Held) → AreOnce old → AreOnce new → Has c d old new → Has c d new old → (x y : ℕ) → (x == c && y == d) ≡ false → find x y new ≡ find x y old
+others-by c d old new a b to from x y n =
+    (elim (find x y old) as (λ (o : Option ℕ). find x y old ≡ o → find x y new ≡ o) [
+      | None ↦ λ g. none-find new x y (λ j l. elim (cases_Bool (is_held x y (held_at new j))) [
+        | inr f ↦ f
+        | inl t ↦ (
+            let s = from j l (apart x y c d (held_at new j) n t) in
+            absurd (both_ways _ (find-none old x y g s.0 s.1) (ap (is_held x y) s.2 ∙ t)))
+      ])
+      | Some at ↦ λ g. (
+          let s = find-some old x y at g in
+          let r = to s.0 s.1 (apart x y c d (held_at old s.0) n s.2) in
+          found-at new r.0 x y b r.1 (ap (is_held x y) r.2 ∙ s.2) ∙ ap (λ (h : Held). Some h.at) r.2 ∙ sym (found-at old s.0 x y a s.1 s.2) ∙ g)
+    ]) refl
 
-shifted : (c d : ℕ) (h : Held) (hs : List Held) (i : ℕ) → IsBound c d (h ∷ hs) (suc i) → IsBound c d hs i
-shifted c d h hs i b = record {
-  within = omega (arith, b.within);
-  low = λ k x l. b.low (suc k) x (omega arith);
-  high = λ k x m l. b.high (suc k) x (omega arith) (omega arith);
-}
-
-all-at : (t : Held → Bool) (hs : List Held) (j : ℕ) (x : Held) → AllByRecursion (λ k. t k ≡ true) hs → j < length hs → t (get_or hs j x) ≡ true
-all-at t [] j x a l = absurd (omega arith)
-all-at t (h ∷ hs) zero x a l = a.0
-all-at t (h ∷ hs) (suc j) x a l = all-at t hs j x a.1 (omega arith)
-
-sorted-at : (hs : List Held) (i j : ℕ) (x : Held) → AreSorted hs → i < j → j < length hs → precedes (get_or hs i x) (get_or hs j x) ≡ true
-sorted-at [] i j x s l m = absurd (omega arith)
-sorted-at (h ∷ hs) zero zero x s l m = absurd (omega arith)
-sorted-at (h ∷ hs) zero (suc j) x s l m = all-at (precedes h) hs j x s.0 (omega arith)
-sorted-at (h ∷ hs) (suc i) zero x s l m = absurd (omega arith)
-sorted-at (h ∷ hs) (suc i) (suc j) x s l m = sorted-at hs i j x s.1 (omega arith) (omega arith)
-
-pub parted : (c d : ℕ) (hs : List Held) → AreSorted hs → IsPartitionedBy (comes_before c d) hs
-parted c d hs s i j x l m p = elim (cases_lt i j) [
-  | inl before ↦ precedes-trans c d (get_or hs i x) (get_or hs j x) (sorted-at hs i j x s before m) p
-  | inr same ↦ (let e : j ≡ i = omega arith in subst (λ k. comes_before c d (get_or hs k x) ≡ true) e p)
+pub puts-by : (c d : ℕ) (place : Option ℕ) (old new : List Held) → AreOnce old → AreOnce new → find c d new ≡ place → Has c d old new → Has c d new old → Puts c d place old new
+puts-by c d place old new a b e to from x y = elim (cases_Bool (x == c && y == d)) [
+  | inl t ↦ (
+      let p = and_parts (x == c) (y == d) t in
+      ap (λ k. find k y new) (eqb-true x c p.0) ∙ ap (λ k. find c k new) (eqb-true y d p.1) ∙ e ∙ sym (cond-true (x == c && y == d) place (find x y old) t))
+  | inr n ↦ others-by c d old new a b to from x y n ∙ sym (cond-false (x == c && y == d) place (find x y old) n)
 ]
-
--- where the element at the bound is another one, the delivery isn't out
-pub bound-none : (c d : ℕ) (hs : List Held) (i : ℕ) → AreSorted hs → IsBound c d hs i → ((x : Held) → i < length hs → is_held c d (get_or hs i x) ≡ false) → list_any (is_held c d) hs ≡ false
-bound-none c d [] i s b n = refl
-bound-none c d (h ∷ hs) zero s b n = or_from _ _ (n h (omega arith)) (later-other c d h (b.high 0 h (omega arith) (omega arith)) hs s.0)
-bound-none c d (h ∷ hs) (suc i) s b n = or_from _ _ (before-other c d h (b.low 0 h (omega arith))) (bound-none c d hs i s.1 (shifted c d h hs i b) (λ x l. n x (omega arith)))
-
--- the same of a client, whose first delivery would be there
-client-later : (c : ℕ) (h : Held) → comes_before c 0 h ≡ false → h.client ≢ c → (d : ℕ) (hs : List Held) → AllByRecursion (λ k. precedes h k ≡ true) hs → list_any (is_held c d) hs ≡ false
-client-later c h p n d [] a = refl
-client-later c h p n d (k ∷ hs) a =
-    let past : c < h.client = elim (before-not h.client h.delivery c 0 p) [ inl l ↦ l | inr l ↦ absurd (n l.0) ] in
-    let further : c < k.client = elim (before-cases h.client h.delivery k.client k.delivery a.0) [ inl l ↦ omega arith | inr l ↦ omega arith ] in
-    or_from _ _ (and_left _ _ (ne_eqb k.client c (λ e. omega arith))) (client-later c h p n d hs a.1)
-
-pub client-none : (c d : ℕ) (hs : List Held) (i : ℕ) → AreSorted hs → IsBound c 0 hs i → ((x : Held) → i < length hs → (get_or hs i x).client ≢ c) → list_any (is_held c d) hs ≡ false
-client-none c d [] i s b n = refl
-client-none c d (h ∷ hs) zero s b n =
-    let other : h.client ≢ c = n h (omega arith) in
-    or_from _ _ (and_left _ _ (ne_eqb h.client c other)) (client-later c h (b.high 0 h (omega arith) (omega arith)) other d hs s.0)
-client-none c d (h ∷ hs) (suc i) s b n =
-    let other : h.client ≢ c = λ e. elim (before-cases h.client h.delivery c 0 (b.low 0 h (omega arith))) [ inl l ↦ omega arith | inr l ↦ omega arith ] in
-    or_from _ _ (and_left _ _ (ne_eqb h.client c other)) (client-none c d hs i s.1 (shifted c 0 h hs i b) (λ x l. n x (omega arith)))
 
 -- ---- one more
 
-all-inserted : (t : Held → Bool) (hs : List Held) (i : ℕ) (h : Held) → AllByRecursion (λ k. t k ≡ true) hs → t h ≡ true → AllByRecursion (λ k. t k ≡ true) (insert hs i h)
-all-inserted t [] zero h a p = (p, tt)
-all-inserted t [] (suc i) h a p = (p, tt)
-all-inserted t (x ∷ hs) zero h a p = (p, a)
-all-inserted t (x ∷ hs) (suc i) h a p = (a.0, all-inserted t hs i h a.1 p)
-
-all-after : (c d : ℕ) (h : Held) → h.client ≡ c → h.delivery ≡ d → (hs : List Held) → ((k : ℕ) (x : Held) → k < length hs → comes_before c d (get_or hs k x) ≡ false) → list_any (is_held c d) hs ≡ false
-    → AllByRecursion (λ k. precedes h k ≡ true) hs
-all-after c d h e f [] a n = tt
-all-after c d h e f (x ∷ hs) a n =
-    let parts = or_parts _ _ n in
-    (after-other c d x h e f (a 0 x (omega arith)) parts.0, all-after c d h e f hs (λ k y l. a (suc k) y (omega arith)) parts.1)
-
-pub sorted-inserted : (hs : List Held) (i : ℕ) (h : Held) → AreSorted hs → IsBound h.client h.delivery hs i → list_any (is_held h.client h.delivery) hs ≡ false → AreSorted (insert hs i h)
-sorted-inserted [] zero h s b n = (tt, tt)
-sorted-inserted [] (suc i) h s b n = (tt, tt)
-sorted-inserted (x ∷ hs) zero h s b n = (all-after h.client h.delivery h refl refl (x ∷ hs) (λ k y l. b.high k y (omega arith) l) n, s)
-sorted-inserted (x ∷ hs) (suc i) h s b n =
-    (all-inserted (precedes x) hs i h s.0 (b.low 0 x (omega arith)), sorted-inserted hs i h s.1 (shifted h.client h.delivery x hs i b) (or_parts _ _ n).1)
-
-pair-same : (x y : ℕ) (h : Held) → is_held x y h ≡ (x == h.client && y == h.delivery)
-pair-same x y h = elim (cases_Bool (is_held x y h)) [
-  | inl t ↦ (let s = held-same x y h t in t ∙ sym (and_from _ _ (eq-eqb x h.client (sym s.0)) (eq-eqb y h.delivery (sym s.1))))
-  | inr f ↦ f ∙ sym (elim (cases_Bool (x == h.client && y == h.delivery)) [
-    | inr g ↦ g
-    | inl t ↦ (let p = and_parts _ _ t in absurd (both_ways _ f (held-from x y h (sym (eqb-true x h.client p.0)) (sym (eqb-true y h.delivery p.1)))))
-  ])
+push-at : (hs : List Held) (h : Held) (i : ℕ) → i < length (hs ++ h ∷ []) → ((i < length hs) × (held_at (hs ++ h ∷ []) i ≡ held_at hs i)) ⊎ ((i ≡ length hs) × (held_at (hs ++ h ∷ []) i ≡ h))
+push-at hs h i l = elim (cases_lt i (length hs)) [
+  | inl m ↦ inl (m, get_or_append_left hs (h ∷ []) no_delivery i m)
+  | inr g ↦ (let e : i ≡ length hs = omega (arith, length-append hs (h ∷ [])) in inr (e, get_or_push hs h no_delivery i (sym e)))
 ]
 
--- a test that finds one of two different deliveries doesn't find the other
-apart : (x y c d : ℕ) (z : Held) → is_held c d z ≡ false → (x == c && y == d) ≡ true → is_held x y z ≡ false
-apart x y c d z n t =
-    let p = and_parts _ _ t in
-    let xc : x ≡ c = eqb-true x c p.0 in
-    let yd : y ≡ d = eqb-true y d p.1 in
-    rw (xc, yd) n
+pub once-pushed : (hs : List Held) (h : Held) → AreOnce hs → ((i : ℕ) → i < length hs → is_held h.client h.delivery (held_at hs i) ≡ false) → AreOnce (hs ++ h ∷ [])
+once-pushed hs h a n i j l m e = elim (push-at hs h i l) [
+  | inl p ↦ elim (push-at hs h j m) [
+    | inl q ↦ a i j p.0 q.0 (subst (λ (k : Held). is_held k.client k.delivery (held_at hs i) ≡ true) q.1 (ap (is_held (held_at (hs ++ h ∷ []) j).client (held_at (hs ++ h ∷ []) j).delivery) (sym p.1) ∙ e))
+    | inr q ↦ absurd (both_ways _ (n i p.0) (subst (λ (k : Held). is_held k.client k.delivery (held_at hs i) ≡ true) q.1 (ap (is_held (held_at (hs ++ h ∷ []) j).client (held_at (hs ++ h ∷ []) j).delivery) (sym p.1) ∙ e)))
+  ]
+  | inr p ↦ elim (push-at hs h j m) [
+    | inl q ↦ (
+        let f : is_held (held_at hs j).client (held_at hs j).delivery h ≡ true = subst (λ (k : Held). is_held k.client k.delivery h ≡ true) q.1 (ap (is_held (held_at (hs ++ h ∷ []) j).client (held_at (hs ++ h ∷ []) j).delivery) (sym p.1) ∙ e) in
+        let s = held-same (held_at hs j).client (held_at hs j).delivery h f in
+        absurd (both_ways _ (n j q.0) (held-from h.client h.delivery (held_at hs j) (sym s.0) (sym s.1))))
+    | inr q ↦ p.0 ∙ sym q.0
+  ]
+]
 
--- a head that isn't the delivery stays in front
-puts-cons : (x y : ℕ) (z : Held) (c d : ℕ) (place : Option ℕ) (old new : List Held) → is_held c d z ≡ false → find x y new ≡ cond (x == c && y == d) place (find x y old)
-    → find x y (z ∷ new) ≡ cond (x == c && y == d) place (find x y (z ∷ old))
-puts-cons x y z c d place old new n e =
-    ap (λ o. cond (is_held x y z) (Some z.at) o) e
-    ∙ elim (cases_Bool (x == c && y == d)) [
-      | inl t ↦ cond-false (is_held x y z) (Some z.at) (cond (x == c && y == d) place (find x y old)) (apart x y c d z n t)
-          ∙ cond-true (x == c && y == d) place (find x y old) t ∙ sym (cond-true (x == c && y == d) place (find x y (z ∷ old)) t)
-      | inr f ↦ ap (λ o. cond (is_held x y z) (Some z.at) o) (cond-false (x == c && y == d) place (find x y old) f)
-          ∙ sym (cond-false (x == c && y == d) place (find x y (z ∷ old)) f)
-    ]
-
-pub puts-inserted : (hs : List Held) (i : ℕ) (h : Held) → list_any (is_held h.client h.delivery) hs ≡ false → Puts h.client h.delivery (Some h.at) hs (insert hs i h)
-puts-inserted [] zero h n x y = ap (λ b. cond b (Some h.at) None) (pair-same x y h)
-puts-inserted [] (suc i) h n x y = ap (λ b. cond b (Some h.at) None) (pair-same x y h)
-puts-inserted (z ∷ hs) zero h n x y = ap (λ b. cond b (Some h.at) (find x y (z ∷ hs))) (pair-same x y h)
-puts-inserted (z ∷ hs) (suc i) h n x y =
-    let parts = or_parts _ _ n in
-    puts-cons x y z h.client h.delivery (Some h.at) hs (insert hs i h) parts.0 (puts-inserted hs i h parts.1 x y)
+pub puts-pushed : (hs : List Held) (h : Held) → AreOnce hs → ((i : ℕ) → i < length hs → is_held h.client h.delivery (held_at hs i) ≡ false) → Puts h.client h.delivery (Some h.at) hs (hs ++ h ∷ [])
+puts-pushed hs h a n =
+    let new = hs ++ h ∷ [] in
+    let within : length hs < length new = omega (arith, length-append hs (h ∷ [])) in
+    let last : held_at new (length hs) ≡ h = get_or_push hs h no_delivery (length hs) refl in
+    puts-by h.client h.delivery (Some h.at) hs new a (once-pushed hs h a n)
+    (found-at new (length hs) h.client h.delivery (once-pushed hs h a n) within (ap (is_held h.client h.delivery) last ∙ held-from h.client h.delivery h refl refl) ∙ ap (λ (k : Held). Some k.at) last)
+    (λ i l _. (i, omega arith, get_or_append_left hs (h ∷ []) no_delivery i l))
+    (λ i l f. elim (push-at hs h i l) [
+      | inl p ↦ (i, p.0, sym p.1)
+      | inr p ↦ absurd (both_ways _ f (ap (is_held h.client h.delivery) p.1 ∙ held-from h.client h.delivery h refl refl))
+    ])
 
 -- ---- one fewer
 
-not-head : (c d : ℕ) (h : Held) (hs : List Held) (i : ℕ) → AreSorted (h ∷ hs) → i < length hs → ((x : Held) → is_held c d (get_or hs i x) ≡ true) → is_held c d h ≡ false
-not-head c d h hs i s l e = elim (cases_Bool (is_held c d h)) [
-  | inr f ↦ f
-  | inl t ↦ (
-      let p = held-same c d h t in
-      let n : list_any (is_held c d) hs ≡ false = subst (λ j. list_any (λ g. g.client == j && g.delivery == d) hs ≡ false) p.0 (subst (λ j. list_any (λ g. g.client == h.client && g.delivery == j) hs ≡ false) p.1 (key-once h hs s.0)) in
-      absurd (both_ways _ n (list_any_at (is_held c d) hs i h l (e h))))
+-- where the delivery at a place of the new list stood, and where one of the old list stands now
+abbrev source : ℕ → ℕ → ℕ → ℕ → ℕ
+source i leaf last k = let m = cond (k == leaf) last k in cond (m == i) leaf m
+
+at-eq : {X : Type 0} (a b : ℕ) (x y : X) → a ≡ b → cond (a == b) x y ≡ x
+at-eq a b x y e = cond-true (a == b) x y (eq-eqb a b e)
+
+at-ne : {X : Type 0} (a b : ℕ) (x y : X) → (a ≡ b → ⊥) → cond (a == b) x y ≡ y
+at-ne a b x y n = cond-false (a == b) x y (ne_eqb a b n)
+
+set-at : (hs : List Held) (i k : ℕ) (h : Held) → i < length hs → held_at (set hs i h) k ≡ cond (k == i) h (held_at hs k)
+set-at hs i k h l = elim (cases_eq k i) [
+  | inl e ↦ ap (held_at (set hs i h)) e ∙ get_or-set_same hs i h no_delivery l ∙ sym (at-eq k i h (held_at hs k) e)
+  | inr n ↦ get_or-set_other hs i k h no_delivery n ∙ sym (at-ne k i h (held_at hs k) n)
 ]
 
-pub find-at : (hs : List Held) (i c d : ℕ) (x : Held) → AreSorted hs → i < length hs → ((x : Held) → is_held c d (get_or hs i x) ≡ true) → find c d hs ≡ Some (get_or hs i x).at
-find-at [] i c d x s l e = absurd (omega arith)
-find-at (h ∷ hs) zero c d x s l e = cond-true (is_held c d h) (Some h.at) (find c d hs) (e h)
-find-at (h ∷ hs) (suc i) c d x s l e =
-    cond-false (is_held c d h) (Some h.at) (find c d hs) (not-head c d h hs i s (omega arith) e) ∙ find-at hs i c d x s.1 (omega arith) e
+cond-ap : (b : Bool) (x y : ℕ) (hs : List Held) → held_at hs (cond b x y) ≡ cond b (held_at hs x) (held_at hs y)
+cond-ap true x y hs = refl
+cond-ap false x y hs = refl
 
-all-removed : (t : Held → Bool) (hs : List Held) (i : ℕ) → AllByRecursion (λ k. t k ≡ true) hs → AllByRecursion (λ k. t k ≡ true) (remove hs i)
-all-removed t [] zero a = tt
-all-removed t [] (suc i) a = tt
-all-removed t (h ∷ hs) zero a = a.1
-all-removed t (h ∷ hs) (suc i) a = (a.0, all-removed t hs i a.1)
+-- what a source is
+pub record IsSource (i leaf last k s : ℕ) : Type 0 where
+  pub moved : k ≡ leaf → last ≡ i → s ≡ leaf
+  pub last_one : k ≡ leaf → (last ≡ i → ⊥) → s ≡ last
+  pub filled : (k ≡ leaf → ⊥) → k ≡ i → s ≡ leaf
+  pub same : (k ≡ leaf → ⊥) → (k ≡ i → ⊥) → s ≡ k
 
-pub sorted-removed : (hs : List Held) (i : ℕ) → AreSorted hs → AreSorted (remove hs i)
-sorted-removed [] zero s = tt
-sorted-removed [] (suc i) s = tt
-sorted-removed (h ∷ hs) zero s = s.1
-sorted-removed (h ∷ hs) (suc i) s = (all-removed (precedes h) hs i s.0, sorted-removed hs i s.1)
+source-is : (i leaf last k : ℕ) → IsSource i leaf last k (source i leaf last k)
+source-is i leaf last k = record {
+  moved = λ e f. ap (λ m. cond (m == i) leaf m) (at-eq k leaf last k e) ∙ at-eq last i leaf last f;
+  last_one = λ e f. ap (λ m. cond (m == i) leaf m) (at-eq k leaf last k e) ∙ at-ne last i leaf last f;
+  filled = λ e f. ap (λ m. cond (m == i) leaf m) (at-ne k leaf last k e) ∙ at-eq k i leaf k f;
+  same = λ e f. ap (λ m. cond (m == i) leaf m) (at-ne k leaf last k e) ∙ at-ne k i leaf k f;
+}
 
-pub puts-removed : (hs : List Held) (i c d : ℕ) → AreSorted hs → i < length hs → ((x : Held) → is_held c d (get_or hs i x) ≡ true) → Puts c d None hs (remove hs i)
-puts-removed [] i c d s l e x y = absurd (omega arith)
-puts-removed (h ∷ hs) zero c d s l e x y =
-    let p = held-same c d h (e h) in
-    let same : is_held x y h ≡ (x == c && y == d) = pair-same x y h ∙ ap (λ k. x == k && y == h.delivery) p.0 ∙ ap (λ k. x == c && y == k) p.1 in
-    elim (cases_Bool (x == c && y == d)) [
-      | inl t ↦ (
-          let q = and_parts _ _ t in
-          let n : list_any (is_held x y) hs ≡ false = subst (λ j. list_any (λ g. g.client == j && g.delivery == y) hs ≡ false) (p.0 ∙ sym (eqb-true x c q.0)) (subst (λ j. list_any (λ g. g.client == h.client && g.delivery == j) hs ≡ false) (p.1 ∙ sym (eqb-true y d q.1)) (key-once h hs s.0)) in
-          any-none x y hs n ∙ sym (cond-true (x == c && y == d) None (find x y (h ∷ hs)) t))
-      | inr f ↦ sym (cond-false (x == c && y == d) None (find x y (h ∷ hs)) f ∙ cond-false (is_held x y h) (Some h.at) (find x y hs) (same ∙ f))
+-- the four forms of a source
+source-cases : (i leaf last k : ℕ) → (((k ≡ leaf) × (last ≡ i) × (source i leaf last k ≡ leaf)) ⊎ ((k ≡ leaf) × (last ≡ i → ⊥) × (source i leaf last k ≡ last)))
+    ⊎ (((k ≡ leaf → ⊥) × (k ≡ i) × (source i leaf last k ≡ leaf)) ⊎ ((k ≡ leaf → ⊥) × (k ≡ i → ⊥) × (source i leaf last k ≡ k)))
+source-cases i leaf last k =
+    let w = source-is i leaf last k in
+    elim (cases_eq k leaf) [
+      | inl e ↦ inl (elim (cases_eq last i) [ inl f ↦ inl (e, f, w.moved e f) | inr f ↦ inr (e, f, w.last_one e f) ])
+      | inr e ↦ inr (elim (cases_eq k i) [ inl f ↦ inl (e, f, w.filled e f) | inr f ↦ inr (e, f, w.same e f) ])
     ]
-puts-removed (h ∷ hs) (suc i) c d s l e x y =
-    puts-cons x y h c d None hs (remove hs i) (not-head c d h hs i s (omega arith) e) (puts-removed hs i c d s.1 (omega arith) e x y)
+
+pub source-within : (i leaf last k : ℕ) → k < last → leaf ≤ last → source i leaf last k ≤ last
+source-within i leaf last k l m = elim (source-cases i leaf last k) [
+  | inl a ↦ elim a [ inl p ↦ omega (arith, p.2) | inr p ↦ omega (arith, p.2) ]
+  | inr a ↦ elim a [ inl p ↦ omega (arith, p.2) | inr p ↦ omega (arith, p.2) ]
+]
+
+-- none has the place that was taken
+pub source-other : (i leaf last k : ℕ) → k < last → leaf ≤ last → source i leaf last k ≡ i → ⊥
+source-other i leaf last k l m e = elim (source-cases i leaf last k) [
+  | inl a ↦ elim a [ inl p ↦ omega (arith, p.0, p.1, p.2, e) | inr p ↦ p.1 (sym p.2 ∙ e) ]
+  | inr a ↦ elim a [ inl p ↦ p.0 (p.1 ∙ sym e ∙ p.2) | inr p ↦ p.1 (sym p.2 ∙ e) ]
+]
+
+-- no two places of the new list have one source
+pub source-once : (i leaf last j k : ℕ) → j < last → k < last → leaf ≤ last → source i leaf last j ≡ source i leaf last k → j ≡ k
+source-once i leaf last j k l m w e = elim (source-cases i leaf last j) [
+  | inl a ↦ elim a [
+    | inl p ↦ elim (source-cases i leaf last k) [
+      | inl b ↦ elim b [ inl q ↦ p.0 ∙ sym q.0 | inr q ↦ absurd (q.1 p.1) ]
+      | inr b ↦ elim b [ inl q ↦ omega (arith, p.1, q.1, m) | inr q ↦ absurd (q.0 (sym q.2 ∙ sym e ∙ p.2)) ]
+    ]
+    | inr p ↦ elim (source-cases i leaf last k) [
+      | inl b ↦ elim b [ inl q ↦ p.0 ∙ sym q.0 | inr q ↦ p.0 ∙ sym q.0 ]
+      | inr b ↦ elim b [ inl q ↦ omega (arith, p.0, p.2, q.2, e, l) | inr q ↦ omega (arith, p.2, q.2, e, m) ]
+    ]
+  ]
+  | inr a ↦ elim a [
+    | inl p ↦ elim (source-cases i leaf last k) [
+      | inl b ↦ elim b [ inl q ↦ omega (arith, p.1, q.1, l) | inr q ↦ omega (arith, q.0, p.2, q.2, e, m) ]
+      | inr b ↦ elim b [ inl q ↦ p.1 ∙ sym q.1 | inr q ↦ absurd (q.0 (sym q.2 ∙ sym e ∙ p.2)) ]
+    ]
+    | inr p ↦ elim (source-cases i leaf last k) [
+      | inl b ↦ elim b [ inl q ↦ absurd (p.0 (sym p.2 ∙ e ∙ q.2)) | inr q ↦ omega (arith, p.2, q.2, e, l) ]
+      | inr b ↦ elim b [ inl q ↦ absurd (p.0 (sym p.2 ∙ e ∙ q.2)) | inr q ↦ sym p.2 ∙ e ∙ q.2 ]
+    ]
+  ]
+]
+
+-- each place but the one that was taken is a source
+pub target : (i leaf last m : ℕ) → m ≤ last → i ≤ last → leaf ≤ last → (m ≡ i → ⊥) → (k : ℕ) × (k < last) × (source i leaf last k ≡ m)
+target i leaf last m w v u n = elim (cases_eq m leaf) [
+  | inl e ↦ elim (cases_eq i last) [
+    | inl f ↦ (leaf, omega (arith, e, f, n), (source-is i leaf last leaf).moved refl (sym f) ∙ sym e)
+    | inr f ↦ (i, omega (arith, f), (source-is i leaf last i).filled (λ g. n (e ∙ sym g)) refl ∙ sym e)
+  ]
+  | inr e ↦ elim (cases_eq m last) [
+    | inl f ↦ (leaf, omega (arith, e, f), (source-is i leaf last leaf).last_one refl (λ g. n (f ∙ g)) ∙ sym f)
+    | inr f ↦ (m, omega (arith, f), (source-is i leaf last m).same e n)
+  ]
+]
+
+pub taken-length : (old new : List Held) (i : ℕ) → i < length old → IsTaken old new i → length new + 1 ≡ length old
+taken-length old new i l t =
+    let hs = set old i (held_at old t.leaf) in
+    omega (arith, ap length t.is, length-take (length hs - 1) (set hs t.leaf (held_at hs (length hs - 1))), length-set hs t.leaf (held_at hs (length hs - 1)), length-set old i (held_at old t.leaf))
+
+pub taken-at : (old new : List Held) (i : ℕ) → i < length old → (t : IsTaken old new i) → (k : ℕ) → k < length new → held_at new k ≡ held_at old (source i t.leaf (length old - 1) k)
+taken-at old new i l t k m =
+    let x = held_at old t.leaf in
+    let hs = set old i x in
+    let last : ℕ = length hs - 1 in
+    let same : length hs ≡ length old = length-set old i x in
+    let y = held_at hs last in
+    let below : k < last = omega (arith, taken-length old new i l t, same) in
+    let in-hs : (j : ℕ) → held_at hs j ≡ held_at old (cond (j == i) t.leaf j) = λ j. set-at old i j x l ∙ sym (cond-ap (j == i) t.leaf j old) in
+    let leaf : t.leaf < length hs = omega (arith, t.within, same) in
+    ap (λ js. held_at js k) t.is ∙ get_or-take last (set hs t.leaf y) k no_delivery below ∙ set-at hs t.leaf k y leaf
+    ∙ sym (cond-ap (k == t.leaf) last k hs) ∙ in-hs (cond (k == t.leaf) last k) ∙ ap (λ z. held_at old (source i t.leaf (z - 1) k)) same
+
+pub once-taken : (old new : List Held) (i : ℕ) → i < length old → IsTaken old new i → AreOnce old → AreOnce new
+once-taken old new i l t a j k m n e =
+    let len = taken-length old new i l t in
+    let last : ℕ = length old - 1 in
+    let sj = source i t.leaf last j in
+    let sk = source i t.leaf last k in
+    let p = taken-at old new i l t j m in
+    let q = taken-at old new i l t k n in
+    let f : is_held (held_at old sk).client (held_at old sk).delivery (held_at old sj) ≡ true =
+    subst (λ (h : Held). is_held h.client h.delivery (held_at old sj) ≡ true) q (ap (is_held (held_at new k).client (held_at new k).delivery) (sym p) ∙ e) in
+    let jl : j < last = omega (arith, len) in
+    let kl : k < last = omega (arith, len) in
+    let w : t.leaf ≤ last = omega (arith, t.within) in
+    source-once i t.leaf last j k jl kl w (a sj sk (omega (arith, source-within i t.leaf last j jl w)) (omega (arith, source-within i t.leaf last k kl w)) f)
+
+none-left : (old new : List Held) (i c d : ℕ) → i < length old → IsTaken old new i → AreOnce old → is_held c d (held_at old i) ≡ true → (k : ℕ) → k < length new → is_held c d (held_at new k) ≡ false
+none-left old new i c d l t a e k m = elim (cases_Bool (is_held c d (held_at new k))) [
+  | inr f ↦ f
+  | inl f ↦ (
+      let len = taken-length old new i l t in
+      let last : ℕ = length old - 1 in
+      let sk = source i t.leaf last k in
+      let kl : k < last = omega (arith, len) in
+      let w : t.leaf ≤ last = omega (arith, t.within) in
+      let g : is_held c d (held_at old sk) ≡ true = ap (is_held c d) (sym (taken-at old new i l t k m)) ∙ f in
+      let same : i ≡ sk = a i sk l (omega (arith, source-within i t.leaf last k kl w)) (held-both c d (held_at old i) (held_at old sk) e g) in
+      absurd (source-other i t.leaf last k kl w (sym same)))
+]
+
+pub puts-taken : (old new : List Held) (i c d : ℕ) → i < length old → IsTaken old new i → AreOnce old → is_held c d (held_at old i) ≡ true → Puts c d None old new
+puts-taken old new i c d l t a e =
+    let len = taken-length old new i l t in
+    let last : ℕ = length old - 1 in
+    let w : t.leaf ≤ last = omega (arith, t.within) in
+    puts-by c d None old new a (once-taken old new i l t a) (none-find new c d (none-left old new i c d l t a e))
+    (λ m p f. (
+    let other : m ≡ i → ⊥ = λ g. both_ways _ f (ap (λ k. is_held c d (held_at old k)) g ∙ e) in
+    let r = target i t.leaf last m (omega arith) (omega arith) w other in
+    let within : r.0 < length new = (let x = r.1 in omega (arith, len)) in
+    (r.0, within, taken-at old new i l t r.0 within ∙ ap (held_at old) r.2)))
+    (λ k m f. (
+    let kl : k < last = omega (arith, len) in
+    (source i t.leaf last k, omega (arith, source-within i t.leaf last k kl w), sym (taken-at old new i l t k m))))
+
+pub took : (old new : List Held) (i c d : ℕ) (h : Held) → i < length old → IsTaken old new i → AreOnce old → is_held c d (held_at old i) ≡ true → h ≡ held_at old i → Took c d (Some h.at) old new
+took old new i c d h l t a e s =
+    (found-at old i c d a l e ∙ ap (λ (k : Held). Some k.at) (sym s), puts-taken old new i c d l t a e, taken-length old new i l t)
+
+pub took-one : (old new : List Held) (i c : ℕ) (h : Held) → i < length old → IsTaken old new i → AreOnce old → h ≡ held_at old i → h.client ≡ c → TookOne c (Some h) old new
+took-one old new i c h l t a s mine =
+    let e : is_held c h.delivery (held_at old i) ≡ true = ap (is_held c h.delivery) (sym s) ∙ held-from c h.delivery h mine refl in
+    let k = took old new i c h.delivery h l t a e s in
+    (mine, k.0, k.1, k.2)
+
+pub found-some : (hs : List Held) (c d : ℕ) (o : Option ℕ) → AreOnce hs → IsFound false c d hs o → is_some o ≡ is_some (find c d hs)
+found-some hs c d None a f = sym (ap is_some (none-find hs c d f))
+found-some hs c d (Some i) a f = sym (ap is_some (found-at hs i c d a f.0 f.1))
+
+client-not : (h : Held) (c : ℕ) → is_wanted true c 0 h ≡ false → (h.client == c) ≡ false
+client-not h c e = elim (cases_Bool (h.client == c)) [
+  | inr f ↦ f
+  | inl t ↦ absurd (both_ways _ e (and_from (h.client == c) true t refl))
+]
+
+pub none-of-client : (hs : List Held) (c : ℕ) → IsFound true c 0 hs None → (d : ℕ) → find c d hs ≡ None
+none-of-client hs c f d = none-find hs c d (λ i l. and_left ((held_at hs i).client == c) ((held_at hs i).delivery == d) (client-not (held_at hs i) c (f i l)))
 
 -- ---- another place
 
-all-set : (t : Held → Bool) (hs : List Held) (i : ℕ) (h : Held) → AllByRecursion (λ k. t k ≡ true) hs → t h ≡ true → AllByRecursion (λ k. t k ≡ true) (set hs i h)
-all-set t [] i h a p = tt
-all-set t (x ∷ hs) zero h a p = (p, a.1)
-all-set t (x ∷ hs) (suc i) h a p = (a.0, all-set t hs i h a.1 p)
+key-set : (hs : List Held) (i : ℕ) (h : Held) (k : ℕ) → i < length hs → h.client ≡ (held_at hs i).client → h.delivery ≡ (held_at hs i).delivery
+    → ((held_at (set hs i h) k).client ≡ (held_at hs k).client) × ((held_at (set hs i h) k).delivery ≡ (held_at hs k).delivery)
+key-set hs i h k l ec ed = elim (cases_eq k i) [
+  | inl e ↦ subst (λ j. ((held_at (set hs i h) j).client ≡ (held_at hs j).client) × ((held_at (set hs i h) j).delivery ≡ (held_at hs j).delivery)) (sym e)
+      (ap (λ (x : Held). x.client) (get_or-set_same hs i h no_delivery l) ∙ ec, ap (λ (x : Held). x.delivery) (get_or-set_same hs i h no_delivery l) ∙ ed)
+  | inr n ↦ (ap (λ (x : Held). x.client) (get_or-set_other hs i k h no_delivery n), ap (λ (x : Held). x.delivery) (get_or-set_other hs i k h no_delivery n))
+]
 
--- the order sees the key alone
-abbrev HasKey : Held → List Held → ℕ → Type 0
-HasKey h hs i = (x : Held) → is_held h.client h.delivery (get_or hs i x) ≡ true
+pub once-moved : (hs : List Held) (i : ℕ) (h : Held) → i < length hs → h.client ≡ (held_at hs i).client → h.delivery ≡ (held_at hs i).delivery → AreOnce hs → AreOnce (set hs i h)
+once-moved hs i h l ec ed a j k m n e =
+    let len = length-set hs i h in
+    let p = key-set hs i h j l ec ed in
+    let q = key-set hs i h k l ec ed in
+    let s = held-same (held_at (set hs i h) k).client (held_at (set hs i h) k).delivery (held_at (set hs i h) j) e in
+    a j k (omega (arith, len)) (omega (arith, len))
+    (held-from (held_at hs k).client (held_at hs k).delivery (held_at hs j) (sym p.0 ∙ s.0 ∙ q.0) (sym p.1 ∙ s.1 ∙ q.1))
 
-keyed-all : (x h : Held) → x.client ≡ h.client → x.delivery ≡ h.delivery → (hs : List Held) → AllByRecursion (λ k. precedes x k ≡ true) hs → AllByRecursion (λ k. precedes h k ≡ true) hs
-keyed-all x h e f [] a = tt
-keyed-all x h e f (k ∷ hs) a = (
-  subst (λ d. (nat_lt h.client k.client || (h.client == k.client && nat_lt d k.delivery)) ≡ true) f
-      (subst (λ c. (nat_lt c k.client || (c == k.client && nat_lt x.delivery k.delivery)) ≡ true) e a.0),
-  keyed-all x h e f hs a.1,
-)
+pub puts-moved : (hs : List Held) (i c d : ℕ) (h : Held) → i < length hs → is_held c d (held_at hs i) ≡ true → h.client ≡ (held_at hs i).client → h.delivery ≡ (held_at hs i).delivery → AreOnce hs
+    → Puts c d (Some h.at) hs (set hs i h)
+puts-moved hs i c d h l e ec ed a =
+    let len = length-set hs i h in
+    let here : held_at (set hs i h) i ≡ h = get_or-set_same hs i h no_delivery l in
+    let s = held-same c d (held_at hs i) e in
+    let own : is_held c d (held_at (set hs i h) i) ≡ true = ap (is_held c d) here ∙ held-from c d h (ec ∙ s.0) (ed ∙ s.1) in
+    puts-by c d (Some h.at) hs (set hs i h) a (once-moved hs i h l ec ed a)
+    (found-at (set hs i h) i c d (once-moved hs i h l ec ed a) (omega (arith, len, l)) own ∙ ap (λ (k : Held). Some k.at) here)
+    (λ j m f. (j, omega (arith, len, m), get_or-set_other hs i j h no_delivery (λ g. both_ways _ f (ap (λ k. is_held c d (held_at hs k)) g ∙ e))))
+    (λ j m f. (j, omega (arith, len, m), sym (get_or-set_other hs i j h no_delivery (λ g. both_ways _ f (ap (λ k. is_held c d (held_at (set hs i h) k)) g ∙ own)))))
 
-pub sorted-set : (hs : List Held) (i : ℕ) (h : Held) → AreSorted hs → i < length hs → HasKey h hs i → AreSorted (set hs i h)
-sorted-set [] i h s l e = absurd (omega arith)
-sorted-set (x ∷ hs) zero h s l e =
-    let p = held-same h.client h.delivery x (e x) in
-    (keyed-all x h p.0 p.1 hs s.0, s.1)
-sorted-set (x ∷ hs) (suc i) h s l e =
-    let p = held-same h.client h.delivery (get_or hs i x) (e x) in
-    let was : precedes x (get_or hs i x) ≡ true = all-at (precedes x) hs i x s.0 (omega arith) in
-    (all-set (precedes x) hs i h s.0 (subst (λ k. comes_before k h.delivery x ≡ true) p.0 (subst (λ k. comes_before (get_or hs i x).client k x ≡ true) p.1 was)), sorted-set hs i h s.1 (omega arith) e)
-
-pub puts-set : (hs : List Held) (i : ℕ) (h : Held) → AreSorted hs → i < length hs → HasKey h hs i → Puts h.client h.delivery (Some h.at) hs (set hs i h)
-puts-set [] i h s l e x y = absurd (omega arith)
-puts-set (z ∷ hs) zero h s l e x y =
-    let p = held-same h.client h.delivery z (e z) in
-    let same : is_held x y z ≡ (x == h.client && y == h.delivery) = pair-same x y z ∙ ap (λ k. x == k && y == z.delivery) p.0 ∙ ap (λ k. x == h.client && y == k) p.1 in
-    ap (λ b. cond b (Some h.at) (find x y hs)) (pair-same x y h)
-    ∙ elim (cases_Bool (x == h.client && y == h.delivery)) [
-      | inl t ↦ cond-true (x == h.client && y == h.delivery) (Some h.at) (find x y hs) t ∙ sym (cond-true (x == h.client && y == h.delivery) (Some h.at) (find x y (z ∷ hs)) t)
-      | inr f ↦ cond-false (x == h.client && y == h.delivery) (Some h.at) (find x y hs) f
-          ∙ sym (cond-false (x == h.client && y == h.delivery) (Some h.at) (find x y (z ∷ hs)) f ∙ cond-false (is_held x y z) (Some z.at) (find x y hs) (same ∙ f))
-    ]
-puts-set (z ∷ hs) (suc i) h s l e x y =
-    puts-cons x y z h.client h.delivery (Some h.at) hs (set hs i h) (not-head h.client h.delivery z hs i s (omega arith) e) (puts-set hs i h s.1 (omega arith) e x y)
-
--- ---- in the words of the code
-
-pub took-at : (hs after : List Held) (i c d : ℕ) (x : Held) → AreSorted hs → StandsAt c d hs i → x ≡ get_or hs i x → after ≡ remove hs i → Took c d (Some x.at) hs after
-took-at hs after i c d x s e r a =
-    subst (λ (ys : List Held). Took c d (Some x.at) hs ys) (sym a)
-    (find-at hs i c d x s e.0 e.1 ∙ ap (λ (y : Held). Some y.at) (sym r), puts-removed hs i c d s e.0 e.1, length-remove hs i e.0)
-
-pub took-one-at : (hs after : List Held) (i c : ℕ) (x : Held) → AreSorted hs → i < length hs → x.client ≡ c → x ≡ get_or hs i x → after ≡ remove hs i → TookOne c (Some x) hs after
-took-one-at hs after i c x s l mine r a =
-    let at : StandsAt c x.delivery hs i = (
-      l,
-      λ y. (
-          let same : get_or hs i y ≡ x = get_or_default hs i y x l ∙ sym r in
-          subst (λ (h : Held). is_held c x.delivery h ≡ true) (sym same) (held-from c x.delivery x mine refl)),
-    ) in
-    let t = took-at hs after i c x.delivery x s at r a in
-    (mine, t.0, t.1, t.2)
-
-moved-is : (hs : List Held) (i c d at : ℕ) (x : Held) → StandsAt c d hs i → x ≡ get_or hs i x
-    → ◌≡◌ {A = Held} (record { client = c; delivery = d; at = at }) (record { client = x.client; delivery = x.delivery; at = at })
-moved-is hs i c d at x e r =
-    let p = held-same c d x (subst (λ (h : Held). is_held c d h ≡ true) (sym r) (e.1 x)) in
-    let P : ℕ → Held = λ k. record { client = k; delivery = d; at = at } in
-    let Q : ℕ → Held = λ k. record { client = x.client; delivery = k; at = at } in
-    ap P (sym p.0) ∙ ap Q (sym p.1)
-
-pub sorted-moved : (hs : List Held) (i c d at : ℕ) (x : Held) → AreSorted hs → StandsAt c d hs i → x ≡ get_or hs i x → AreSorted (set hs i (record { client = x.client; delivery = x.delivery; at = at }))
-sorted-moved hs i c d at x s e r =
-    subst (λ (h : Held). AreSorted (set hs i h)) (moved-is hs i c d at x e r) (sorted-set hs i (record { client = c; delivery = d; at = at }) s e.0 e.1)
-
-pub puts-moved : (hs : List Held) (i c d at : ℕ) (x : Held) → AreSorted hs → StandsAt c d hs i → x ≡ get_or hs i x → Puts c d (Some at) hs (set hs i (record { client = x.client; delivery = x.delivery; at = at }))
-puts-moved hs i c d at x s e r =
-    subst (λ (h : Held). Puts c d (Some at) hs (set hs i h)) (moved-is hs i c d at x e r) (puts-set hs i (record { client = c; delivery = d; at = at }) s e.0 e.1)
+pub client-of : (hs : List Held) (i c : ℕ) (h : Held) → is_wanted true c 0 (held_at hs i) ≡ true → h ≡ held_at hs i → h.client ≡ c
+client-of hs i c h w e = ap (λ (k : Held). k.client) e ∙ eqb-true (held_at hs i).client c (and_parts ((held_at hs i).client == c) true w).0

@@ -4,7 +4,7 @@ use Rattle.std.proofs.Common.{◌≡◌, ℕ, ◌+◌, ◌<◌, ◌≤◌, Bool,
 use Rattle.std.specs.Prelude.{filter, Option, None, Some, is_some}
 use Rattle.std.proofs.lemmas.Bool.{cond-true, cond-false, or_left, or_right, or_cases, cases_Bool, cases_eq, both_ways}
 use Rattle.std.proofs.lemmas.List.{append-nil, take_more, length_push}
-use Rattle.cq_items.specs.declared.item.Item.{Item}
+use Rattle.cq_items.specs.Item.{Item}
 use Rattle.cq_items.specs.declared.outs.Held.{Held}
 use Rattle.cq_items.specs.Items.{out_for, is_out_to}
 use Rattle.cq_items.specs.Slots.{slot_at, passes, alive, places}

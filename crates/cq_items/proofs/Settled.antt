@@ -3,7 +3,7 @@ use Prim.Native.Nat.{suc}
 use Rattle.std.proofs.Common.{◌≡◌, ℕ, ◌+◌, ◌<◌, true, false, not, cond, List, [], ◌∷◌, length, set, refl, sym, ap, ◌∙◌, subst, arith}
 use Rattle.std.specs.Prelude.{◌==◌, ◌&&◌, map, is_some, Option, None, Some}
 use Rattle.std.proofs.lemmas.Bool.{cond-true, cond-false, and_from, and_parts}
-use Rattle.cq_items.specs.declared.item.Item.{Item}
+use Rattle.cq_items.specs.Item.{Item}
 use Rattle.cq_items.specs.declared.outs.Held.{Held}
 use Rattle.cq_items.specs.declared.items.settling.Left.{Left}
 use Rattle.cq_items.specs.Items.{is_gone, waits, out_for, undecided, settles, settled_items, segment_of, at_of, lowest_segment, is_in, settling_in, others_in, others_items}

@@ -8,7 +8,7 @@ use Rattle.std.specs.Ordering.{nat_cmp}
 use Rattle.std.proofs.lemmas.List.Sorted.{searched}
 use Rattle.std.proofs.lemmas.List.{append-nil}
 use Rattle.std.proofs.lemmas.Bool.{cond-true, cond-false, and_from, and_left, and_right, or_left, or_right, eq-eqb, cases_Bool, both_ways}
-use Rattle.cq_items.specs.declared.item.Item.{Item}
+use Rattle.cq_items.specs.Item.{Item}
 use Rattle.cq_items.specs.declared.item.Stand.{Stand}
 use Rattle.cq_items.specs.declared.item.Holder.{Holder}
 use Rattle.cq_items.specs.declared.item.Holder.TheVariants.{Waiting, Out, Gone}
@@ -270,6 +270,7 @@ pub room-enough : {s w o g r cs cw co cg : ℕ} → HasRoom s w o g r cs cw co c
     → HasRoom s' w' o' g' r' cs' cw' co' cg'
 room-enough h s' w' o' g' r' cs' cw' co' cg' a b c d e f i = record {
   slots_fit = omega (arith, h.slots_fit);
+  few = omega (arith, h.few);
   waiting_fits = omega (arith, h.waiting_fits);
   out_fits = omega (arith, h.out_fits);
   gone_fits = omega (arith, h.gone_fits);

@@ -4,7 +4,7 @@ use Rattle.std.proofs.Common.{◌≡◌, ℕ, ◌+◌, ◌<◌, ◌≤◌, Bool,
 use Rattle.std.specs.Prelude.{not, ◌&&◌, filter, max, is_some, Option, None, Some, option_map, slice_get}
 use Rattle.std.proofs.lemmas.Bool.{cond-true, and_from, and_parts, and_left, and_right, cases_lt, both_ways, not-true}
 use Rattle.cq_entry.specs.declared.entry.EntryKind.{EntryKind}
-use Rattle.cq_items.specs.declared.item.Item.{Item}
+use Rattle.cq_items.specs.Item.{Item}
 use Rattle.cq_items.specs.declared.item.Stand.{Stand}
 use Rattle.cq_items.specs.declared.item.Holder.{Holder}
 use Rattle.cq_items.specs.declared.outs.Held.{Held}

@@ -20,8 +20,3 @@ Took c d (Some at) old new = (find c d old ≡ Some at) × Puts c d None old new
 abbrev pub TookOne : ℕ → Option Held → List Held → List Held → Type 0
 TookOne c None old new = (new ≡ old) × ((d : ℕ) → find c d old ≡ None)
 TookOne c (Some h) old new = (h.client ≡ c) × (find c h.delivery old ≡ Some h.at) × Puts c h.delivery None old new × (length new + 1 ≡ length old)
-
--- what a search for a client's first delivery met, and what that says of the client's deliveries
-abbrev pub IsFirstOf : ℕ → Option Held → List Held → Option Held → Type 0
-IsFirstOf c met hs None = (d : ℕ) → find c d hs ≡ None
-IsFirstOf c met hs (Some h) = (h.client ≡ c) × (met ≡ Some h)

@@ -1,6 +1,6 @@
 -- What a queue keeps beside its messages.
-use Rattle.std.specs.Prelude.{◌≡◌, ℕ, ◌+◌, ◌<◌, ◌≤◌, Bool, true, false, ◌==◌, ◌&&◌, if◌then◌else◌, List, [], ◌∷◌, length, map, get_or, Option, None, Some, is_some}
-use Rattle.cq_items.specs.declared.item.Item.{Item}
+use Rattle.std.specs.Prelude.{◌≡◌, ℕ, ◌+◌, ◌<◌, ◌≤◌, ◌^◌, Bool, true, false, ◌==◌, ◌&&◌, if◌then◌else◌, List, [], ◌∷◌, length, map, get_or, Option, None, Some, is_some}
+use Rattle.cq_items.specs.Item.{Item}
 use Rattle.cq_items.specs.declared.outs.Held.{Held}
 use Rattle.cq_items.specs.declared.item.Settling.{Settling}
 use Rattle.cq_items.specs.declared.items.settling.Left.{Left}
@@ -40,9 +40,10 @@ pub record IsIndexed (slots : List (Option Item)) (waiting : List ℕ) (held : L
   pub gone_is : places settles 0 slots ≡ gone
   pub is_split : IsSplit undecided slots first
 
--- there is room for what waits to be handed out, for what is out to come back or be acknowledged, and for what is reserved
+-- there is room for what waits to be handed out, for what is out to come back or be acknowledged, and for what is reserved; each place is a number of 32 bits
 pub record HasRoom (slots waiting out gone reserved slots_room waiting_room out_room gone_room : ℕ) : Type 0 where
   pub slots_fit : slots + reserved ≤ slots_room
+  pub few : slots + reserved < 2 ^ 32
   pub waiting_fits : waiting + out + reserved ≤ waiting_room
   pub out_fits : waiting + out + reserved ≤ out_room
   pub gone_fits : waiting + out + gone + reserved ≤ gone_room

@@ -10,7 +10,7 @@ use std::marker::Model;
 /// Places of a queue's messages, rising, whatever the order in which they came.
 #[derive(Debug, Drop)]
 pub struct Heap {
-    places: BinaryHeap<Reverse<usize>>,
+    places: BinaryHeap<Reverse<u32>>,
 }
 
 impl Model for Heap {
@@ -26,7 +26,7 @@ impl Model for Heap {
 }
 
 /// The place that a heap keeps in reverse.
-pub(crate) fn number_of(top: &Reverse<usize>) -> usize
+pub(crate) fn number_of(top: &Reverse<u32>) -> u32
     ensures { result ≡ top.now.0 }
 {
     top.0
@@ -57,7 +57,7 @@ impl Heap {
     }
 
     /// The first place. `None` exactly where there is none.
-    pub fn first(&self) -> Option<usize>
+    pub fn first(&self) -> Option<u32>
         ensures { result ≡ slice_get self.now.items 0 }
     {
         match self.places.peek() {
@@ -93,7 +93,7 @@ impl Heap {
     }
 
     /// One more place.
-    pub fn put(&mut self, at: usize)
+    pub fn put(&mut self, at: u32)
         requires { length self.old.items < self.old.room }
         ensures items { self.new.items ≡ put_in at self.old.items }
         ensures room { self.old.room ≤ self.new.room }

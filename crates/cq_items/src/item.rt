@@ -1,5 +1,4 @@
-// A message of a queue.
-use cq_bytes::Body;
+// What is said of a queue's messages.
 use cq_entry::EntryKind;
 
 /// Who has a message.
@@ -22,22 +21,6 @@ pub struct Stand {
     pub at: u32,
     /// The record's place in the segment's small store; 0 for a shared message.
     pub place: u64,
-}
-
-/// A message of a queue.
-#[derive(Debug, Drop)]
-pub struct Item {
-    pub id: u128,
-    pub kind: EntryKind,
-    /// How many bytes the body has.
-    pub len: u32,
-    /// The body of a small message that isn't committed.
-    pub body: Option<Body>,
-    /// Where its entry and its record stand, once it is committed.
-    pub stand: Option<Stand>,
-    pub holder: Holder,
-    /// Whether it was never handed out.
-    pub fresh: bool,
 }
 
 /// What a queue hands out next.

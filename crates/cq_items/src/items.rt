@@ -1,9 +1,8 @@
 // A queue in memory.
-ghost use Rattle.cq_items.specs.Items.{ack, committed, first_of, found_item, fresh_items, give_back, hand_out, is_out_to, kind_of, new_item, undecided_items, waiting_items};
+ghost use Rattle.cq_items.specs.Items.{ack, committed, first_of, found_item, fresh_items, give_back, hand_out, is_out_to, new_item, undecided_items, waiting_items};
 ghost use Rattle.cq_items.specs.Line.{put_in};
 ghost use Rattle.cq_items.specs.Slots.{passes};
 ghost use Rattle.cq_items.specs.Queue.{GaveOne};
-ghost use Rattle.std.specs.Option.{option_copied};
 ghost use Rattle.std.specs.Prelude.{length, map, slice_get, ◌≡◌, ◌<◌, ◌≤◌, ◌+◌, ◌++◌, ◌∷◌, [], false, if◌then◌else◌, OnOk, OnErr};
 
 mod deciding;
@@ -13,19 +12,23 @@ mod settling;
 use crate::heap::Heap;
 use crate::line::Line;
 use crate::outs::Outs;
+use crate::slot::Slot;
 use crate::slots::{hand_to, set_holder};
-use crate::{First, Holder, Item, Stand};
+use crate::{First, Holder, Message, Stand};
 use cq_bytes::Body;
 use cq_entry::EntryKind;
 use std::alloc::{AllocError, Global};
 use std::collections::VecDeque;
 use std::marker::Model;
 
+/// How many places there may be, so that each has a number of 32 bits.
+const MOST_PLACES: usize = 4_294_967_295;
+
 /// A queue in memory. A contract sees its messages in line order, and for how many more there is room.
 #[derive(Debug, Drop)]
 pub struct Items {
     /// A place for each message, in line order. Places of messages that have left are empty.
-    slots: VecDeque<Option<Item>>,
+    slots: VecDeque<Slot>,
     /// The places of what waits, rising.
     waiting: Line,
     outs: Outs,
@@ -55,24 +58,14 @@ impl Model for Items {
         × IsUnseen q.slots.items q.unseen };
 }
 
-/// How a message with this body is stored: small where the body was given.
-fn kind_of(body: &Option<Body>) -> EntryKind
-    ensures { result ≡ kind_of body.now }
-{
-    match body {
-        Some(_) => EntryKind::Small,
-        None => EntryKind::Shared,
-    }
-}
-
 /// Notes the place of a message that is acknowledged, where its entry is committed.
-fn note_gone(gone: &mut Heap, slot: &Option<Item>, at: usize)
+fn note_gone(gone: &mut Heap, slot: &Slot, at: u32)
     requires { length gone.old.items < gone.old.room }
     ensures items { gone.new.items ≡ (if passes committed slot.now then put_in at gone.old.items else gone.old.items) }
     ensures room { gone.old.room ≤ gone.new.room }
 {
-    if let Some(item) = slot {
-        if item.stand.is_some() {
+    if let Some(item) = slot.message() {
+        if item.stand().is_some() {
             gone.put(at);
         }
     }
@@ -95,11 +88,15 @@ impl Items {
         }
     }
 
-    /// Takes the memory for one more message, whatever happens to it. Where memory runs out nothing has changed.
+    /// Takes the memory for one more message, whatever happens to it. Where memory runs out, or there are 4,294,967,295
+    /// places, nothing has changed.
     pub fn reserve(&mut self) -> Result<(), AllocError>
         ensures ok { OnOk result (self.new ≡ record self.old { reserved = 1 }) }
         ensures err { OnErr result (self.new ≡ self.old) }
     {
+        if self.slots.len() >= MOST_PLACES {
+            return Err(AllocError);
+        }
         let open = self.outs.len();
         let waiting = self.waiting.len();
         self.slots.reserve(1)?;
@@ -116,17 +113,9 @@ impl Items {
         requires { 0 < self.old.reserved }
         ensures { self.new ≡ record { items = self.old.items ++ new_item id body len ∷ []; reserved = 0 } }
     {
-        let at = self.slots.len();
-        let kind = kind_of(&body);
-        self.slots.push_back_reserved(Some(Item {
-            id,
-            kind,
-            len,
-            body,
-            stand: None,
-            holder: Holder::Waiting,
-            fresh: true,
-        }));
+        let at = self.slots.len() as u32;
+        self.slots
+            .push_back_reserved(Slot::published(id, body, len));
         self.waiting.push(at);
         self.reserved = 0;
     }
@@ -137,39 +126,32 @@ impl Items {
         requires decided { undecided_items self.old.items ≡ [] }
         ensures { self.new ≡ record { items = self.old.items ++ found_item id kind len stand ∷ []; reserved = 0 } }
     {
-        let at = self.slots.len();
-        self.slots.push_back_reserved(Some(Item {
-            id,
-            kind,
-            len,
-            body: None,
-            stand: Some(stand),
-            holder: Holder::Waiting,
-            fresh: true,
-        }));
+        let at = self.slots.len() as u32;
+        self.slots
+            .push_back_reserved(Slot::found(id, kind, len, stand));
         self.waiting.push(at);
         self.first = self.slots.len();
         self.reserved = 0;
     }
 
     /// The message that is handed out next. `None` exactly where nothing waits.
-    pub fn first_item(&self) -> Option<&Item>
-        ensures { option_copied result ≡ slice_get (waiting_items self.now.items) 0 }
+    pub fn first_item(&self) -> Option<Message<'_>>
+        ensures { result ≡ slice_get (waiting_items self.now.items) 0 }
     {
         match self.waiting.first() {
-            Some(at) => self.slots[at].as_ref(),
+            Some(at) => self.slots[at as usize].message(),
             None => None,
         }
     }
 
     /// The committed message at this place among those that were never handed out, in line order. `None` exactly past the last.
-    pub fn fresh_item(&self, at: usize) -> Option<&Item>
-        ensures { option_copied result ≡ slice_get (fresh_items self.now.items) at }
+    pub fn fresh_item(&self, at: usize) -> Option<Message<'_>>
+        ensures { result ≡ slice_get (fresh_items self.now.items) at }
     {
         if at >= self.first.saturating_sub(self.unseen) {
             return None;
         }
-        self.slots[self.unseen + at].as_ref()
+        self.slots[self.unseen + at].message()
     }
 
     /// What is told of the message that is handed out next. `None` exactly where nothing waits.
@@ -178,9 +160,9 @@ impl Items {
     {
         match self.first_item() {
             Some(item) => Some(First {
-                id: item.id,
-                kind: item.kind,
-                len: item.len,
+                id: item.id(),
+                kind: item.kind(),
+                len: item.len(),
             }),
             None => None,
         }
@@ -208,9 +190,13 @@ impl Items {
     {
         match self.waiting.pop() {
             Some(at) => {
-                hand_to(&mut self.slots, at, Holder::Out { client, delivery });
+                hand_to(
+                    &mut self.slots,
+                    at as usize,
+                    Holder::Out { client, delivery },
+                );
                 self.outs.put(client, delivery, at);
-                self.unseen = self.unseen.max(at + 1);
+                self.unseen = self.unseen.max(at as usize + 1);
             }
             None => {}
         }
@@ -222,8 +208,8 @@ impl Items {
     {
         match self.outs.take(client, delivery) {
             Some(at) => {
-                note_gone(&mut self.gone, &self.slots[at], at);
-                set_holder(&mut self.slots, at, Holder::Gone);
+                note_gone(&mut self.gone, &self.slots[at as usize], at);
+                set_holder(&mut self.slots, at as usize, Holder::Gone);
             }
             None => {}
         }
@@ -243,7 +229,7 @@ impl Items {
         match self.outs.take_of(client) {
             Some(held) => {
                 let at = held.at;
-                set_holder(&mut self.slots, at, Holder::Waiting);
+                set_holder(&mut self.slots, at as usize, Holder::Waiting);
                 self.waiting.put_back(at);
                 true
             }

@@ -6,8 +6,10 @@ mod item;
 mod items;
 mod line;
 mod outs;
+mod slot;
 mod slots;
 mod tree;
 
-pub use item::{First, Holder, Item, Passed, Settling, Stand};
+pub use item::{First, Holder, Passed, Settling, Stand};
 pub use items::Items;
+pub use slot::Message;

@@ -15,9 +15,9 @@ use std::marker::Model;
 #[derive(Debug, Drop)]
 pub struct Line {
     /// The places of what was out and came back. All come before those that never left.
-    back: BinaryHeap<Reverse<usize>>,
+    back: BinaryHeap<Reverse<u32>>,
     /// The other places, rising.
-    fresh: VecDeque<usize>,
+    fresh: VecDeque<u32>,
 }
 
 impl Model for Line {
@@ -35,7 +35,7 @@ impl Model for Line {
 }
 
 /// Where a place belongs among those that wait.
-fn place_among(waiting: &VecDeque<usize>, at: usize) -> usize
+fn place_among(waiting: &VecDeque<u32>, at: u32) -> usize
     requires { IsRising waiting.now.items }
     ensures { IsPlace waiting.now.items at result }
 {
@@ -46,7 +46,7 @@ fn place_among(waiting: &VecDeque<usize>, at: usize) -> usize
 }
 
 /// Puts a place among those that wait.
-fn put_at(waiting: &mut VecDeque<usize>, place: usize, at: usize)
+fn put_at(waiting: &mut VecDeque<u32>, place: usize, at: u32)
     requires within { place ≤ length waiting.old.items }
     requires room { length waiting.old.items < deque_capacity waiting.old }
     ensures items { waiting.new.items ≡ insert waiting.old.items place at }
@@ -59,7 +59,7 @@ fn put_at(waiting: &mut VecDeque<usize>, place: usize, at: usize)
 }
 
 /// Whether a place comes before all of these.
-fn comes_first(waiting: &VecDeque<usize>, at: usize) -> bool
+fn comes_first(waiting: &VecDeque<u32>, at: u32) -> bool
     ensures { result ≡ is_first at waiting.now.items }
 {
     match waiting.front() {
@@ -94,7 +94,7 @@ impl Line {
     }
 
     /// The first place. `None` exactly where there is none.
-    pub fn first(&self) -> Option<usize>
+    pub fn first(&self) -> Option<u32>
         ensures { result ≡ slice_get self.now.items 0 }
     {
         match self.back.peek() {
@@ -134,7 +134,7 @@ impl Line {
     }
 
     /// One more place at the end.
-    pub fn push(&mut self, at: usize)
+    pub fn push(&mut self, at: u32)
         requires { length self.old.items < self.old.room }
         ensures items { self.new.items ≡ self.old.items ++ at ∷ [] }
         ensures room { self.new.room ≡ self.old.room }
@@ -143,7 +143,7 @@ impl Line {
     }
 
     /// Takes the first place. `None` exactly where there is none.
-    pub fn pop(&mut self) -> Option<usize>
+    pub fn pop(&mut self) -> Option<u32>
         ensures items { MatchOption result ((self.new.items ≡ []) × (self.old.items ≡ []))
             (λ at. self.old.items ≡ at ∷ self.new.items) }
         ensures room { self.new.room ≡ self.old.room }
@@ -155,7 +155,7 @@ impl Line {
     }
 
     /// A place comes back to where it belongs.
-    pub fn put_back(&mut self, at: usize)
+    pub fn put_back(&mut self, at: u32)
         requires rising { IsRising self.old.items }
         requires room { length self.old.items < self.old.room }
         ensures put { IsPut at self.old.items self.new.items }

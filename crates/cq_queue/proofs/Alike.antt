@@ -13,7 +13,7 @@ use Rattle.cq_small.specs.Store.{small_name}
 use Rattle.cq_index.specs.Places.{index_name}
 use Rattle.cq_folder.specs.Queue.{content_in}
 use Rattle.cq_folder.specs.Holding.{IsAt}
-use Rattle.cq_items.specs.declared.item.Item.{Item}
+use Rattle.cq_items.specs.Item.{Item}
 use Rattle.cq_items.specs.declared.item.Stand.{Stand}
 use Rattle.cq_items.specs.declared.item.Holder.{Holder}
 use Rattle.cq_items.specs.declared.item.Holder.TheVariants.{Out}

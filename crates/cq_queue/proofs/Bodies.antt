@@ -26,7 +26,7 @@ use Rattle.cq_folder.proofs.Members.{entry_held}
 use Rattle.cq_folder.proofs.Names.{index_own, small_own}
 use Rattle.cq_folder.proofs.One.{same_body}
 use Rattle.cq_folder.proofs.Sublists.{all_in, in_has, clash}
-use Rattle.cq_items.specs.declared.item.Item.{Item}
+use Rattle.cq_items.specs.Item.{Item}
 use Rattle.cq_items.specs.declared.item.Stand.{Stand}
 use Rattle.cq_items.specs.Items.{undecided, undecided_items, waiting_items, waits}
 use Rattle.cq_queue.specs.declared.segment.QueueSegment.{QueueSegment}

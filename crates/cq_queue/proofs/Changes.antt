@@ -293,6 +293,10 @@ pub if_three : {T E : Type 0} (r : Result T E) (P Q R : T → Type 0) (A : Type 
 if_three (Ok v) P Q R A p q a step = step v p q a
 if_three (Err e) P Q R A p q a step = tt
 
+pub if_each : {T E : Type 0} (r : Result T E) (P Q S R : T → Type 0) → IfOk r P → IfOk r Q → IfOk r S → ((v : T) → P v → Q v → S v → R v) → IfOk r R
+if_each (Ok v) P Q S R p q s step = step v p q s
+if_each (Err e) P Q S R p q s step = tt
+
 pub ge_of : (a b : ℕ) → nat_lt a b ≡ false → b ≤ a
 ge_of a b test = grind (arith, nat_tests)
 

@@ -12,7 +12,7 @@ use Rattle.cq_index.specs.Places.{index_name}
 use Rattle.cq_journal.specs.declared.event.Message.{Message}
 use Rattle.cq_folder.specs.Folder.{Sharing}
 use Rattle.cq_folder.specs.Holding.{StillHeld, joined}
-use Rattle.cq_items.specs.declared.item.Item.{Item}
+use Rattle.cq_items.specs.Item.{Item}
 use Rattle.cq_items.specs.declared.item.Stand.{Stand}
 use Rattle.cq_items.specs.Items.{undecided_items}
 use Rattle.cq_queue.specs.declared.segment.QueueSegment.{QueueSegment}

@@ -14,16 +14,16 @@ use Rattle.cq_small.specs.Record.{StandsIn}
 use Rattle.cq_small.specs.Store.{small_name}
 use Rattle.cq_small.proofs.Records.{record_body}
 use Rattle.cq_index.specs.Places.{index_name}
-use Rattle.cq_folder.specs.Queue.{content_in}
+use Rattle.cq_folder.specs.Queue.{content_in, listed_in}
 use Rattle.cq_folder.specs.Holding.{IsAt}
-use Rattle.cq_items.specs.declared.item.Item.{Item}
+use Rattle.cq_items.specs.Item.{Item}
 use Rattle.cq_items.specs.declared.item.Stand.{Stand}
 use Rattle.cq_items.specs.Items.{decide, skips, undecided_items}
 use Rattle.cq_queue.specs.Files.{HasEntriesFrom, HasRecords, KeepsEntries, KeepsRecords}
 use Rattle.cq_queue.specs.Laid.{place_of, next_of}
 use Rattle.cq_queue.specs.Passing.{HasLength, IsReady, commit_items, kept_items}
 use Rattle.cq_queue.specs.Planning.{body_record, entries_in, item_entry, records_in}
-use Rattle.cq_queue.specs.Tied.{AreInPlace, AreSplit, IsInPlace, IsWholeRecord, body_at, entry_at, listed_in, listing_of, standing_at}
+use Rattle.cq_queue.specs.Tied.{AreInPlace, AreSplit, IsInPlace, IsWholeRecord, body_at, entry_at, listing_of, standing_at}
 use Rattle.cq_queue.proofs.Changes.{some_same}
 use Rattle.cq_queue.proofs.Come.{first_record, rest_records}
 use Rattle.cq_queue.proofs.Passes.{commit_keep, commit_skip, commit_stop, commit_yes, und_no, und_yes}

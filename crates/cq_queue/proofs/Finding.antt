@@ -22,7 +22,7 @@ use Rattle.cq_index.specs.Places.{entry_at}
 use Rattle.cq_index.specs.Segments as index
 use Rattle.cq_folder.specs.Holding.{IsAt}
 use Rattle.cq_folder.specs.Queue.{IsIndexAt, content_in}
-use Rattle.cq_items.specs.declared.item.Item.{Item}
+use Rattle.cq_items.specs.Item.{Item}
 use Rattle.cq_items.specs.Queue.{Queue}
 use Rattle.cq_queue.specs.declared.segment.QueueSegment.{QueueSegment}
 use Rattle.cq_queue.specs.declared.error.QueueError.{QueueError}

@@ -13,9 +13,9 @@ use Rattle.cq_disk.specs.File.{File}
 use Rattle.cq_index.specs.Places.{index_name}
 use Rattle.cq_journal.specs.Lists.{IsIn}
 use Rattle.cq_folder.specs.Holding.{AreAtPlaces}
-use Rattle.cq_folder.specs.Queue.{content_in}
+use Rattle.cq_folder.specs.Queue.{content_in, listed_in}
 use Rattle.cq_folder.proofs.Sublists.{in_append}
-use Rattle.cq_items.specs.declared.item.Item.{Item}
+use Rattle.cq_items.specs.Item.{Item}
 use Rattle.cq_items.specs.Items.{at_of, lowest_segment, others_in, others_items, segment_of, settles, settling_ids, settling_in, settling_of, settling_places}
 use Rattle.cq_items.proofs.Settled.{others-none}
 use Rattle.cq_queue.specs.declared.error.QueueError.{QueueError}
@@ -25,7 +25,7 @@ use Rattle.cq_queue.specs.QueueSegment.{CanLose, index_in, present_of}
 use Rattle.cq_queue.specs.Lists.{AreSegments, place_in}
 use Rattle.cq_queue.specs.QueueCalls.{Leaves, calls_to_settle}
 use Rattle.cq_queue.specs.Values.{IsUnchanged, QueueValue}
-use Rattle.cq_queue.specs.Tied.{IsTied, AreInPlace, listed_in, listed, standing_at}
+use Rattle.cq_queue.specs.Tied.{IsTied, AreInPlace, listed, standing_at}
 use Rattle.cq_queue.proofs.Changes.{all_at, some_same}
 use Rattle.cq_queue.proofs.Lowest.{goes, going, going_rise, in_listed, is_present, others_is, settling_is, some_go, stand_is, stay_items}
 use Rattle.cq_queue.proofs.Order.{AreApart, AreInOrder, are_apart, listed_order}
@@ -50,8 +50,9 @@ found_below (q ∷ ps) n k there = (elim (q.number == n) as (λ (b : Bool). (q.n
     no_true true no' yes' = cc
     no_true false no' yes' = cc
 
-pub never_missing : (ps : List QueueSegment) (n k : ℕ) → IsIn (listed ps) (n, k) → place_in n ps ≡ None → ⊥
-never_missing ps n k there none = is_some_none (position_or_len (λ (s : QueueSegment). s.number == n) ps) (length ps) (found_below ps n k there) none
+-- one that was found before the end has a place
+pub has_place : (ps : List QueueSegment) (n : ℕ) → position_or_len (λ (s : QueueSegment). s.number == n) ps < length ps → place_in n ps ≡ None → ⊥
+has_place ps n below none = is_some_none (position_or_len (λ (s : QueueSegment). s.number == n) ps) (length ps) below none
   where
     test : (a b : ℕ) → a < b → nat_lt a b ≡ true
     test a b lt = grind (arith, nat_tests)
@@ -61,6 +62,9 @@ never_missing ps n k there none = is_some_none (position_or_len (λ (s : QueueSe
 
     is_some_none : (a b : ℕ) → a < b → cond (nat_lt a b) (Some a) None ≡ None → ⊥
     is_some_none a b lt none = clash_none a (sym (ap (λ (c : Bool). cond c (Some a) None) (test a b lt)) ∙ none)
+
+pub never_missing : (ps : List QueueSegment) (n k : ℕ) → IsIn (listed ps) (n, k) → place_in n ps ≡ None → ⊥
+never_missing ps n k there none = has_place ps n (found_below ps n k there) none
 
 -- one that stands there has this number
 pub number_at : (ps : List QueueSegment) (n i : ℕ) (p : QueueSegment) → place_in n ps ≡ Some i → slice_get ps i ≡ Some p → p.number ≡ n

@@ -7,7 +7,7 @@ use Rattle.cq_entry.specs.declared.entry.EntryKind.{EntryKind}
 use Rattle.cq_entry.specs.declared.entry.EntryKind.TheVariants.{Small, Shared as SharedEntry}
 use Rattle.cq_small.specs.declared.store.SmallStore.{SmallStore}
 use Rattle.cq_small.specs.Store.{len_of}
-use Rattle.cq_items.specs.declared.item.Item.{Item}
+use Rattle.cq_items.specs.Item.{Item}
 use Rattle.cq_items.specs.declared.item.Stand.{Stand}
 use Rattle.cq_items.specs.Items.{undecided_items}
 use Rattle.cq_queue.specs.declared.segment.QueueSegment.{QueueSegment}
@@ -16,7 +16,8 @@ use Rattle.cq_queue.specs.Lists.{AreBelow, AreSame, IsPicked}
 use Rattle.cq_queue.specs.Lists.IsPicked.{Last, Next, First}
 use Rattle.cq_queue.specs.Passing.{IsReady, bytes_of, commit_items, kept_items}
 use Rattle.cq_queue.specs.QueueSegment.{IsMore, IsOpen, IsSame, SameNumber, count_of, end_of, present_of, small_len}
-use Rattle.cq_queue.specs.Tied.{IsTied, IsWithin, listed, listed_in, listing_of, standing_at}
+use Rattle.cq_folder.specs.Queue.{listed_in}
+use Rattle.cq_queue.specs.Tied.{IsTied, IsWithin, listed, listing_of, standing_at}
 use Rattle.cq_queue.proofs.Changes.{all_append, all_front, all_back, some_same}
 use Rattle.cq_queue.proofs.Committed.{Comes, commit_all, commit_lists, commit_split, commit_undecided}
 use Rattle.cq_queue.proofs.Picked.{Climbs, listed_append, listed_in-append, picked_listed, present_more, right_nil, upto}

@@ -115,8 +115,8 @@ pub record JoinsTo (queue : ℕ) (all_segments : List Segment) (all_stores : Lis
 
 pub join_first : (queue : ℕ) (segments : List Segment) (stores : List SmallStore) → AreFiles queue segments stores → JoinsTo queue segments stores segments stores []
 join_first queue segments stores f = record {
-  files = record { rise = f.indexes; small_rise = f.smalls; matched = f.matched };
-  opens = f.open_smalls;
+  files = record { rise = f.indexes.rise; small_rise = f.smalls.rise; matched = f.smalls.matched };
+  opens = f.smalls.are_open;
   indexes = append-nil segments;
   smalls = append-nil stores;
 }
@@ -203,7 +203,7 @@ rising_list queue (q ∷ list) rise =
     above (r ∷ rs) lt = ((let a = number_is q in let b = number_is r in let l = lt.0 in omega (arith, a, b, l)), above rs lt.1)
 
 pub joined_segments : (queue : ℕ) (segments : List Segment) (stores : List SmallStore) (list : List QueueSegment) → AreFiles queue segments stores → AreJoined segments stores list → AreSegments queue list
-joined_segments queue segments stores list f j = rising_list queue list (subst (λ (ss : List Segment). RiseAs (index_name queue) (indexes_of ss)) (sym j.indexes) f.indexes)
+joined_segments queue segments stores list f j = rising_list queue list (subst (λ (ss : List Segment). RiseAs (index_name queue) (indexes_of ss)) (sym j.indexes) f.indexes.rise)
 
 -- ---- one of them
 
@@ -350,7 +350,7 @@ module _ (queue : ℕ) (segments : List Segment) (stores : List SmallStore) (lis
   }
 
 pub joined_open : (queue : ℕ) (segments : List Segment) (stores : List SmallStore) (list : List QueueSegment) → AreFiles queue segments stores → AreJoined segments stores list → AllByRecursion IsOpen list
-joined_open queue segments stores list are j = all_map index.IsOpen (λ (r : QueueSegment). r.index) list (subst (AllByRecursion index.IsOpen) (sym j.indexes) are.open_indexes)
+joined_open queue segments stores list are j = all_map index.IsOpen (λ (r : QueueSegment). r.index) list (subst (AllByRecursion index.IsOpen) (sym j.indexes) are.indexes.are_open)
 
 -- what can't be found of a segment can't be read of its file
 pub cant_read : (Told : Type 0) (queue : ℕ) (segments : List Segment) (stores : List SmallStore) (list : List QueueSegment) → AreFiles queue segments stores → AreJoined segments stores list

@@ -10,7 +10,7 @@ use Rattle.cq_entry.specs.declared.entry.EntryKind.{EntryKind}
 use Rattle.cq_entry.specs.declared.entry.EntryKind.TheVariants.{Small, Shared as SharedEntry}
 use Rattle.cq_journal.specs.declared.event.Message.{Message}
 use Rattle.cq_folder.specs.Folder.{Sharing}
-use Rattle.cq_items.specs.declared.item.Item.{Item}
+use Rattle.cq_items.specs.Item.{Item}
 use Rattle.cq_items.specs.Items.{skips, undecided_items}
 use Rattle.cq_queue.specs.declared.queue.planning.Plan.{Plan}
 use Rattle.cq_queue.specs.Laid.{place_of, next_of, record_of, records_of, entry_of, entries_of, Lays}

@@ -7,13 +7,14 @@ use Rattle.std.specs.List.Sorted.{IsStrictlyIncreasing}
 use Rattle.std.proofs.lemmas.Bool.{false≢true, eq-eqb, eqb-true, and_parts, cases_lt}
 use Rattle.cq_journal.specs.Lists.{IsIn}
 use Rattle.cq_folder.proofs.Sublists.{all_in, in_append}
-use Rattle.cq_items.specs.declared.item.Item.{Item}
+use Rattle.cq_items.specs.Item.{Item}
 use Rattle.cq_items.specs.declared.item.Stand.{Stand}
 use Rattle.cq_items.specs.Items.{at_of, is_gone, lowest_segment, others_in, segment_of, settles, settling_in}
 use Rattle.cq_queue.specs.declared.segment.QueueSegment.{QueueSegment}
 use Rattle.cq_queue.specs.QueueSegment.{present_of}
 use Rattle.cq_queue.specs.Lists.{Rise}
-use Rattle.cq_queue.specs.Tied.{listed_in, listed, listing_of, standing_at}
+use Rattle.cq_folder.specs.Queue.{listed_in}
+use Rattle.cq_queue.specs.Tied.{listed, listing_of, standing_at}
 use Rattle.cq_queue.proofs.Changes.{some_same, all_at}
 use Rattle.cq_queue.proofs.Order.{AreInOrder, IsBefore, numbers_above, rising_more, weaker}
 

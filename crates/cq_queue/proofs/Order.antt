@@ -6,7 +6,8 @@ use Rattle.std.specs.List.Sorted.{IsStrictlyIncreasing}
 use Rattle.cq_queue.specs.declared.segment.QueueSegment.{QueueSegment}
 use Rattle.cq_queue.specs.QueueSegment.{present_of}
 use Rattle.cq_queue.specs.Lists.{Rise}
-use Rattle.cq_queue.specs.Tied.{listed_in, listed}
+use Rattle.cq_folder.specs.Queue.{listed_in}
+use Rattle.cq_queue.specs.Tied.{listed}
 use Rattle.cq_queue.proofs.Changes.{all_append}
 
 pub weaker : {A : Type 0} (P Q : A → Type 0) (xs : List A) → ((x : A) → P x → Q x) → AllByRecursion P xs → AllByRecursion Q xs

@@ -12,11 +12,11 @@ use Rattle.cq_queue.proofs.Changes.{some_same}
 none_some : {A : Type 0} (a : A) → None ≡ Some a → ⊥
 none_some a e = cc
 
-more : (ps : List QueueSegment) → nat_lt 1 (suc (length ps)) ≡ is_there ps
+pub more : (ps : List QueueSegment) → nat_lt 1 (suc (length ps)) ≡ is_there ps
 more [] = refl
 more (p ∷ ps) = grind (arith, nat_tests)
 
-next_test : (i n : ℕ) → nat_lt (suc i + 1) (suc n) ≡ nat_lt (i + 1) n
+pub next_test : (i n : ℕ) → nat_lt (suc i + 1) (suc n) ≡ nat_lt (i + 1) n
 next_test i n = grind (arith, nat_tests)
 
 pub over_at : (most : ℕ) (ps : List QueueSegment) (i : ℕ) (x : QueueSegment) → slice_get ps i ≡ Some x → first_over most (drop i ps) ≡ (if is_over (nat_lt (i + 1) (length ps)) most x then Some 0 else option_map suc (first_over most (drop (suc i) ps)))

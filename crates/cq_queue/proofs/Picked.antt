@@ -14,7 +14,8 @@ use Rattle.cq_queue.specs.declared.segment.QueueSegment.{QueueSegment}
 use Rattle.cq_queue.specs.QueueSegment.{IsMore, IsNew, count_of, end_of, present_of}
 use Rattle.cq_queue.specs.Lists.{AreSame, IsPicked}
 use Rattle.cq_queue.specs.Lists.IsPicked.{Last, Next, First}
-use Rattle.cq_queue.specs.Tied.{Pick, first_pick, pick_of, listed, listed_in}
+use Rattle.cq_folder.specs.Queue.{listed_in}
+use Rattle.cq_queue.specs.Tied.{Pick, first_pick, pick_of, listed}
 use Rattle.cq_queue.specs.QueueCalls.{joining}
 use Rattle.cq_queue.proofs.Changes.{all_append, some_same}
 use Rattle.cq_queue.proofs.Planned.{lt_true, lt_false}

@@ -7,7 +7,7 @@ use Rattle.std.proofs.lemmas.Bool.{cases_Bool, cases_lt}
 use Rattle.cq_bytes.specs.Numbers.{contains}
 use Rattle.cq_entry.specs.declared.entry.EntryKind.{EntryKind}
 use Rattle.cq_entry.specs.declared.entry.EntryKind.TheVariants.{Small, Shared as SharedEntry}
-use Rattle.cq_items.specs.declared.item.Item.{Item}
+use Rattle.cq_items.specs.Item.{Item}
 use Rattle.cq_items.specs.declared.item.Passed.{Passed}
 use Rattle.cq_items.specs.Items.{skips}
 use Rattle.cq_queue.specs.declared.queue.planning.Plan.{Plan}

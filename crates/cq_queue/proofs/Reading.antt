@@ -14,8 +14,8 @@ use Rattle.cq_small.specs.Store.{small_name}
 use Rattle.cq_index.specs.Places.{index_name}
 use Rattle.cq_index.specs.Segments as index
 use Rattle.cq_folder.specs.Holding.{IsAt}
-use Rattle.cq_folder.specs.Queue.{content_in}
-use Rattle.cq_items.specs.declared.item.Item.{Item}
+use Rattle.cq_folder.specs.Queue.{content_in, listed_in}
+use Rattle.cq_items.specs.Item.{Item}
 use Rattle.cq_items.specs.declared.item.Stand.{Stand}
 use Rattle.cq_items.specs.Items.{at_of, committed, found_item, fresh_items, segment_of, undecided, undecided_items}
 use Rattle.cq_items.specs.Queue.{Queue}
@@ -23,7 +23,7 @@ use Rattle.cq_queue.specs.declared.segment.QueueSegment.{QueueSegment}
 use Rattle.cq_queue.specs.QueueSegment.{IsOpen, index_in, present_of, small_len}
 use Rattle.cq_queue.specs.Lists.{AreSegments, Rise}
 use Rattle.cq_queue.specs.Passing.{IsReady}
-use Rattle.cq_queue.specs.Tied.{entry_at, AreInPlace, AreSplit, IsInPlace, IsTied, IsWholeRecord, IsWithin, listed, listed_in, standing_at}
+use Rattle.cq_queue.specs.Tied.{entry_at, AreInPlace, AreSplit, IsInPlace, IsTied, IsWholeRecord, IsWithin, listed, standing_at}
 use Rattle.cq_queue.specs.Opening.{FindsMore, HasFound, HasRecords, IsFound, LiesIn, found_of, listed_as, record_of}
 use Rattle.cq_queue.proofs.Changes.{all_append, all_at}
 use Rattle.cq_queue.proofs.Alike.{standing_append}

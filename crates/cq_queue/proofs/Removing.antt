@@ -8,13 +8,13 @@ use Rattle.cq_disk.specs.File.{File}
 use Rattle.cq_small.specs.Store.{small_name}
 use Rattle.cq_index.specs.Places.{index_name}
 use Rattle.cq_folder.specs.Holding.{IsAt}
-use Rattle.cq_folder.specs.Queue.{content_in}
-use Rattle.cq_items.specs.declared.item.Item.{Item}
+use Rattle.cq_folder.specs.Queue.{content_in, listed_in}
+use Rattle.cq_items.specs.Item.{Item}
 use Rattle.cq_items.specs.declared.item.Stand.{Stand}
 use Rattle.cq_queue.specs.declared.segment.QueueSegment.{QueueSegment}
 use Rattle.cq_queue.specs.QueueSegment.{IsOpen, OthersStay, is_over, present_of, small_len}
 use Rattle.cq_queue.specs.Lists.{Rise, is_there, first_over}
-use Rattle.cq_queue.specs.Tied.{listed_in, listed, listing_of, standing_at, IsWithin, IsTied, entry_at, IsWholeRecord, IsInPlace, AreInPlace, OtherFilesStay}
+use Rattle.cq_queue.specs.Tied.{listed, listing_of, standing_at, IsWithin, IsTied, entry_at, IsWholeRecord, IsInPlace, AreInPlace, OtherFilesStay}
 use Rattle.cq_queue.proofs.Files.{apart}
 use Rattle.cq_queue.proofs.Over.{over_empty}
 use Rattle.cq_queue.proofs.Changes.{some_same, all_at, all_append, all_front, all_back, all_without}

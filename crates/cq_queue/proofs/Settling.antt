@@ -13,9 +13,9 @@ use Rattle.cq_small.specs.Store.{small_name, len_of}
 use Rattle.cq_index.specs.Places.{index_name}
 use Rattle.cq_journal.specs.Lists.{IsIn}
 use Rattle.cq_folder.specs.Holding.{IsAt}
-use Rattle.cq_folder.specs.Queue.{content_in}
+use Rattle.cq_folder.specs.Queue.{content_in, listed_in}
 use Rattle.cq_folder.proofs.Sublists.{all_in, or_true}
-use Rattle.cq_items.specs.declared.item.Item.{Item}
+use Rattle.cq_items.specs.Item.{Item}
 use Rattle.cq_items.specs.declared.item.Stand.{Stand}
 use Rattle.cq_items.specs.Items.{at_of, is_gone, segment_of, undecided, undecided_items}
 use Rattle.cq_queue.specs.declared.segment.QueueSegment.{QueueSegment}
@@ -23,7 +23,7 @@ use Rattle.cq_queue.specs.Files.{KeepsOtherEntries}
 use Rattle.cq_queue.specs.QueueSegment.{IsLess, IsOpen, index_file, index_in, present_of, small_file, small_len}
 use Rattle.cq_queue.specs.Lists.{Rise}
 use Rattle.cq_queue.specs.Passing.{IsReady}
-use Rattle.cq_queue.specs.Tied.{listed_in, listed, listing_of, standing_at, AreSplit, IsWithin, IsTied, entry_at, IsWholeRecord, IsInPlace, AreInPlace}
+use Rattle.cq_queue.specs.Tied.{listed, listing_of, standing_at, AreSplit, IsWithin, IsTied, entry_at, IsWholeRecord, IsInPlace, AreInPlace}
 use Rattle.cq_queue.proofs.Files.{apart}
 use Rattle.cq_queue.proofs.Changes.{some_same, all_at, set_all}
 use Rattle.cq_queue.proofs.Removing.{in_other}

@@ -12,7 +12,7 @@ use Rattle.cq_index.specs.Places.{index_name}
 use Rattle.cq_folder.specs.Holding.{IsAt, AreAtPlaces}
 use Rattle.cq_folder.specs.Queue.{content_in}
 use Rattle.cq_folder.proofs.Sublists.{or_true}
-use Rattle.cq_items.specs.declared.item.Item.{Item}
+use Rattle.cq_items.specs.Item.{Item}
 use Rattle.cq_items.specs.declared.item.Stand.{Stand}
 use Rattle.cq_items.specs.Items.{at_of, segment_of, settles}
 use Rattle.cq_queue.specs.Tied.{entry_at, IsInPlace, AreInPlace}

@@ -4,14 +4,15 @@ use Rattle.std.specs.Prelude.{◌==◌, ◌||◌}
 use Rattle.std.specs.List.{AllByRecursion}
 use Rattle.cq_disk.specs.declared.name.Name.{Name}
 use Rattle.cq_disk.specs.File.{File}
-use Rattle.cq_items.specs.declared.item.Item.{Item}
+use Rattle.cq_items.specs.Item.{Item}
 use Rattle.cq_items.specs.declared.item.Stand.{Stand}
 use Rattle.cq_items.specs.Items.{undecided_items}
 use Rattle.cq_queue.specs.declared.segment.QueueSegment.{QueueSegment}
 use Rattle.cq_queue.specs.Lists.{AreAt, AreBelow, AreSame, has_number}
 use Rattle.cq_queue.specs.Passing.{IsReady, commit_items, kept_items}
 use Rattle.cq_queue.specs.QueueSegment.{IsOpen, KnowsFiles}
-use Rattle.cq_queue.specs.Tied.{AreInPlace, IsInPlace, IsTied, IsWithin, listed_in, standing_at}
+use Rattle.cq_folder.specs.Queue.{listed_in}
+use Rattle.cq_queue.specs.Tied.{AreInPlace, IsInPlace, IsTied, IsWithin, standing_at}
 use Rattle.cq_queue.proofs.Changes.{knows_same}
 use Rattle.cq_queue.proofs.Committed.{Comes, commit_all, commit_lists, commit_split, commit_undecided}
 use Rattle.cq_queue.proofs.Grown.{IsLong, all_same, long_same, open_same}

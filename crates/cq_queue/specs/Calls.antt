@@ -16,9 +16,10 @@ most_of s = s.most
 abbrev pub list_of : Segments → List QueueSegment
 list_of s = s.list.items
 
--- there is memory for one more
-abbrev pub HasRoom : Segments → Type 0
-HasRoom s = deque_len s.list < deque_capacity s.list
+-- there is memory for one more, and for its number
+pub record HasRoom (s : Segments) : Type 0 where
+  pub list : deque_len s.list < deque_capacity s.list
+  pub empty : deque_len s.list < deque_capacity s.empty
 
 -- of the same queue, and as many entries for a segment at most
 pub record SameQueue (old new : Segments) : Type 0 where

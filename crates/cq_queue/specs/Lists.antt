@@ -6,8 +6,9 @@ use Rattle.cq_disk.specs.declared.name.Name.{Name}
 use Rattle.cq_disk.specs.File.{File}
 use Rattle.cq_small.specs.Store.{small_name}
 use Rattle.cq_index.specs.Places.{index_name}
+use Rattle.cq_queue.specs.Ascending.{put_in}
 use Rattle.cq_queue.specs.declared.segment.QueueSegment.{QueueSegment}
-use Rattle.cq_queue.specs.QueueSegment.{KnowsFiles, IsSame, IsNew, count_of, is_over}
+use Rattle.cq_queue.specs.QueueSegment.{KnowsFiles, IsSame, IsNew, count_of, is_empty, is_over, present_of}
 
 -- whether a segment has this number
 abbrev pub has_number : List QueueSegment → ℕ → Bool
@@ -46,6 +47,15 @@ is_there (s ∷ list) = true
 abbrev pub first_over : ℕ → List QueueSegment → Option ℕ
 first_over most [] = None
 first_over most (s ∷ list) = if is_over (is_there list) most s then Some 0 else option_map suc (first_over most list)
+
+-- the numbers of those without a present entry
+abbrev pub empty_numbers : List QueueSegment → List ℕ
+empty_numbers [] = []
+empty_numbers (s ∷ list) = if is_empty (present_of s) then s.number ∷ empty_numbers list else empty_numbers list
+
+-- these numbers, with that of a segment without a present entry
+abbrev pub put_empty : QueueSegment → List ℕ → List ℕ
+put_empty s numbers = if is_empty (present_of s) then put_in s.number numbers else numbers
 
 -- Each segment knows its files, and no other segment of the queue has any.
 pub record AreAt (queue : ℕ) (list : List QueueSegment) (files : Name → Option File) : Type 0 where

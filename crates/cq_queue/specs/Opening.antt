@@ -14,9 +14,9 @@ use Rattle.cq_index.specs.Places.{index_name, place_of}
 use Rattle.cq_index.specs.Segments as index
 use Rattle.cq_index.specs.declared.error.SegmentError.{SegmentError}
 use Rattle.cq_index.specs.declared.error.SegmentError.TheVariants.{Fault as segment_fault, Memory as segment_memory, Damaged as segment_damaged}
-use Rattle.cq_folder.specs.Queue.{AreIndexesAt, AreStoresAt, HasNoStray, RiseAs, content_in, has_number, indexes_of, stores_of}
+use Rattle.cq_folder.specs.Queue.{AreIndexes, AreIndexesAt, AreStores, AreStoresAt, HasNoStray, content_in}
 use Rattle.cq_folder.specs.Holding.{IsAt}
-use Rattle.cq_items.specs.declared.item.Item.{Item}
+use Rattle.cq_items.specs.Item.{Item}
 use Rattle.cq_items.specs.declared.item.Holder.TheVariants.{Waiting}
 use Rattle.cq_items.specs.declared.item.Stand.{Stand}
 use Rattle.cq_items.specs.Items.{at_of, found_item, segment_of}
@@ -30,14 +30,10 @@ use Rattle.cq_queue.specs.Values.{QueueValue, IsRunning}
 
 -- ---- what is opened
 
--- These are open indexes and open small stores of one queue, each rising by number, and each small store's number is an
--- index's.
+-- these are open indexes and open small stores of one queue
 pub record AreFiles (queue : ℕ) (segments : List Segment) (stores : List SmallStore) : Type 0 where
-  pub indexes : RiseAs (index_name queue) (indexes_of segments)
-  pub smalls : RiseAs (small.small_name queue) (stores_of stores)
-  pub open_indexes : AllByRecursion index.IsOpen segments
-  pub open_smalls : AllByRecursion small.IsOpen stores
-  pub matched : AllByRecursion (λ n. has_number (indexes_of segments) n.number ≡ true) (stores_of stores)
+  pub indexes : AreIndexes queue segments
+  pub smalls : AreStores queue segments stores
 
 -- they are all files of the queue, and each knows its own
 pub record AreOnDisk (queue : ℕ) (segments : List Segment) (stores : List SmallStore) (files : Name → Option File) : Type 0 where

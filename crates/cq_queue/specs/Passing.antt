@@ -5,7 +5,7 @@ use Rattle.cq_bytes.specs.Numbers.{contains}
 use Rattle.cq_entry.specs.declared.entry.EntryKind.{EntryKind}
 use Rattle.cq_entry.specs.declared.entry.EntryKind.TheVariants.{Small}
 use Rattle.cq_journal.specs.declared.event.Message.{Message}
-use Rattle.cq_items.specs.declared.item.Item.{Item}
+use Rattle.cq_items.specs.Item.{Item}
 use Rattle.cq_items.specs.declared.item.Passed.{Passed}
 use Rattle.cq_items.specs.Items.{skips, decide, undecided_items, waits}
 use Rattle.cq_queue.specs.Laid.{place_of, next_of}

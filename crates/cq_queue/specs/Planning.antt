@@ -1,13 +1,15 @@
 -- What a commit writes of the messages that it keeps, and its plan, made before the first call of the disk.
 use Rattle.std.specs.Prelude.{◌≡◌, ℕ, ◌+◌, ◌≤◌, Bool, true, false, List, [], ◌∷◌, ◌++◌, length, Option, Some}
 use Rattle.std.specs.List.{AllByRecursion}
+use Rattle.std.specs.Ordering.{nat_cmp}
+use Rattle.std.specs.BTreeSet.{BTreeSet, contains as has_id}
 use Rattle.cq_entry.specs.declared.entry.Entry.{Entry as IndexEntry}
 use Rattle.cq_entry.specs.declared.entry.EntryKind.{EntryKind}
 use Rattle.cq_entry.specs.declared.entry.EntryKind.TheVariants.{Small}
 use Rattle.cq_entry.specs.Entry.{IsPresent, entry_bytes}
 use Rattle.cq_small.specs.Record.{small_record}
 use Rattle.cq_bytes.specs.Numbers.{contains}
-use Rattle.cq_items.specs.declared.item.Item.{Item}
+use Rattle.cq_items.specs.Item.{Item}
 use Rattle.cq_items.specs.Items.{skips, undecided_items}
 use Rattle.cq_queue.specs.declared.queue.planning.Plan.{Plan}
 use Rattle.cq_queue.specs.Laid.{place_of, next_of}
@@ -35,6 +37,10 @@ records_in (i ∷ is) = item_record i ++ records_in is
 abbrev pub entries_in : ℕ → List Item → List IndexEntry
 entries_in base [] = []
 entries_in base (i ∷ is) = item_entry base i ∷ entries_in (next_of i.kind base i.len) is
+
+-- a set has exactly these ids
+abbrev pub HasIds : List ℕ → BTreeSet ℕ → Type 0
+HasIds ids set = (id : ℕ) → has_id nat_cmp set id ≡ contains ids id
 
 -- an entry is read back as itself
 abbrev pub IsReadBack : IndexEntry → Type 0

@@ -10,7 +10,7 @@ use Rattle.cq_journal.specs.declared.event.Message.{Message}
 use Rattle.cq_journal.specs.Lists.{HasDistinctIds, IsIn}
 use Rattle.cq_folder.specs.Folder.{Sharing}
 use Rattle.cq_folder.specs.Holding.{StillHeld}
-use Rattle.cq_items.specs.declared.item.Item.{Item}
+use Rattle.cq_items.specs.Item.{Item}
 use Rattle.cq_items.specs.declared.item.Stand.{Stand}
 use Rattle.cq_items.specs.declared.item.Passed.{Passed}
 use Rattle.cq_items.specs.Items.{waiting_items, undecided_items, settling_ids, settling_places, lowest_segment, others_items}

@@ -10,9 +10,9 @@ use Rattle.cq_entry.specs.declared.entry.EntryKind.TheVariants.{Small}
 use Rattle.cq_small.specs.Record.{StandsIn}
 use Rattle.cq_small.specs.Store.{small_name}
 use Rattle.cq_index.specs.Places.{index_name}
-use Rattle.cq_folder.specs.Queue.{content_in}
+use Rattle.cq_folder.specs.Queue.{content_in, listed_in}
 use Rattle.cq_folder.specs.Holding.{IsAt}
-use Rattle.cq_items.specs.declared.item.Item.{Item}
+use Rattle.cq_items.specs.Item.{Item}
 use Rattle.cq_items.specs.declared.item.Stand.{Stand}
 use Rattle.cq_items.specs.Items.{undecided_items}
 use Rattle.cq_queue.specs.declared.segment.QueueSegment.{QueueSegment}
@@ -21,10 +21,6 @@ use Rattle.cq_queue.specs.Lists.{AreAt}
 use Rattle.cq_queue.specs.Passing.{HasLength, IsReady}
 
 -- where present entries are listed: the segment and the place in it, by rising segment and then place
-abbrev pub listed_in : ℕ → List ℕ → List (ℕ × ℕ)
-listed_in n [] = []
-listed_in n (k ∷ ks) = (n, k) ∷ listed_in n ks
-
 abbrev pub listed : List QueueSegment → List (ℕ × ℕ)
 listed [] = []
 listed (s ∷ list) = listed_in s.number (present_of s) ++ listed list

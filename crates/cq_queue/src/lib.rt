@@ -4,6 +4,7 @@
 mod commit;
 mod error;
 mod leaving;
+mod numbers;
 mod queue;
 mod segment;
 mod segments;

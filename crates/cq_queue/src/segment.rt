@@ -1,5 +1,6 @@
 // One segment of a queue: its index and its small store.
-ghost use Rattle.std.specs.Prelude.{◌≡◌, ◌+◌, ◌≤◌, ◌^◌, length, IfOk, OnOk, IsErr, nat_lt};
+ghost use Rattle.std.specs.VecDeque.{deque_capacity};
+ghost use Rattle.std.specs.Prelude.{◌≡◌, ◌+◌, ◌≤◌, ◌<◌, ◌^◌, length, IfOk, OnOk, IsErr, nat_lt};
 ghost use Rattle.std.specs.List.Sorted.{IsStrictlyIncreasing};
 ghost use Rattle.cq_disk.specs.Run.{Ran, OnlyReads};
 ghost use Rattle.cq_small.specs.Record.{StandsIn};
@@ -7,10 +8,12 @@ ghost use Rattle.cq_small.specs.Store.{small_name, name_of as small_file_of};
 ghost use Rattle.cq_index.specs.Places.{index_name};
 ghost use Rattle.cq_index.specs.Segments.{name_of as index_file_of};
 
+use crate::numbers::put;
 use cq_disk::{Disk, Fault};
 use cq_index::Segment;
 use cq_small::SmallStore;
 use std::alloc::{AllocError, Global};
+use std::collections::VecDeque;
 
 /// One segment of a queue: its index and its small store, each open on a disk or not made yet.
 ///
@@ -27,7 +30,9 @@ pub struct QueueSegment {
 }
 
 impl QueueSegment {
-    ghost use Rattle.cq_queue.specs.QueueSegment.{IsNew, IsSame, KnowsFiles, HasWhole, count_of, end_of, is_over, number_of, present_of, queue_of, reserved_of, small_in, small_len};
+    ghost use Rattle.cq_queue.specs.Ascending.{Ascend};
+    ghost use Rattle.cq_queue.specs.Lists.{put_empty};
+    ghost use Rattle.cq_queue.specs.QueueSegment.{IsNew, IsSame, KnowsFiles, HasWhole, count_of, end_of, is_empty, is_over, number_of, present_of, queue_of, reserved_of, small_in, small_len};
 
     /// A segment of which no file is there yet. It takes no memory, and makes no call of a disk.
     pub fn vacant(alloc: Global, queue: u32, number: u64) -> QueueSegment
@@ -94,11 +99,30 @@ impl QueueSegment {
         self.index.count() < most
     }
 
+    /// Whether none of its entries is present.
+    pub(crate) fn is_empty(&self) -> bool
+        ensures { result ≡ is_empty (present_of self.now) }
+    {
+        self.index.present().is_empty()
+    }
+
+    /// Puts its number among those of segments without a present entry, if it is one.
+    pub(crate) fn list_empty(&self, numbers: &mut VecDeque<u64>)
+        requires rise { Ascend numbers.old.items }
+        requires room { length numbers.old.items < deque_capacity numbers.old }
+        ensures items { numbers.new.items ≡ put_empty self.now numbers.old.items }
+        ensures capacity { deque_capacity numbers.old ≤ deque_capacity numbers.new }
+    {
+        if self.is_empty() {
+            put(numbers, self.number);
+        }
+    }
+
     /// Whether none of its entries is present, and it got this many or a later one is there.
     pub fn is_over(&self, later: bool, most: u32) -> bool
         ensures { result ≡ is_over later most self.now }
     {
-        self.index.present().is_empty() && (later || self.index.count() >= most)
+        self.is_empty() && (later || self.index.count() >= most)
     }
 
     /// Takes the memory for so many more entries. Where there is none, nothing changes but what was reserved.

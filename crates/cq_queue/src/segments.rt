@@ -1,13 +1,15 @@
 // The segments of one queue.
-ghost use Rattle.std.specs.Prelude.{◌≡◌, ◌≤◌, ◌+◌, ◌++◌, ◌∷◌, ◌^◌, [], length, IfOk, IfSome, OnOk, OnErr, IsErr, Option, take, drop};
+ghost use Rattle.std.specs.Prelude.{◌≡◌, ◌≤◌, ◌+◌, ◌++◌, ◌∷◌, ◌^◌, [], length, IfOk, IfSome, IfNone, OnOk, OnErr, IsErr, Option, take, drop};
+ghost use Rattle.std.specs.VecDeque.{deque_capacity};
 ghost use Rattle.cq_disk.specs.declared.name.Name.{Name};
 ghost use Rattle.cq_disk.specs.File.{File};
 ghost use Rattle.cq_disk.specs.Run.{Ran};
 ghost use Rattle.cq_queue.specs.declared.segment.QueueSegment.{QueueSegment as TheSegment};
-ghost use Rattle.cq_queue.specs.QueueSegment.{CanCommit, Commits, HasCommitted, HasLost, IsSame, LosesOnly, RemovesOnly, commit_calls, removal_calls, reserved_of};
-ghost use Rattle.cq_queue.specs.Lists.{AreAt, AreBelow, AreSame, AreSegments, AreSegments-prop, StandsAt, first_over, place_in};
+ghost use Rattle.cq_queue.specs.QueueSegment.{CanCommit, Commits, HasCommitted, HasLost, IsNew, IsSame, LosesOnly, RemovesOnly, commit_calls, removal_calls, reserved_of};
+ghost use Rattle.cq_queue.specs.Lists.{AreAt, AreBelow, AreSame, AreSegments, AreSegments-prop, StandsAt, empty_numbers, first_over, place_in};
 
 use crate::QueueSegment;
+use crate::numbers::{put, take_out};
 use cq_disk::{Disk, Fault};
 use cq_entry::Entry;
 use cq_small::SmallBatch;
@@ -25,7 +27,11 @@ pub struct Segments {
     /// Nearly all removals are near the front, since a queue's entries go about in the order in which they came; one in
     /// the middle moves the segments of the shorter side.
     pub(crate) list: VecDeque<QueueSegment>,
+    /// The numbers of the segments without a present entry, rising, with room for that of each segment.
+    pub(crate) empty: VecDeque<u64>,
 
+    ghost empty_are: { empty.items ≡ empty_numbers list.items },
+    ghost room: { length list.items ≤ deque_capacity empty },
     ghost are: { AreSegments queue list.items } by { AreSegments-prop queue list.items },
 }
 
@@ -42,7 +48,32 @@ impl Segments {
             queue,
             most,
             list: VecDeque::new(alloc),
+            empty: VecDeque::new(alloc),
         }
+    }
+
+    /// These segments of a queue, which rise by number.
+    pub(crate) fn of(
+        alloc: Global,
+        queue: u32,
+        most: u32,
+        list: VecDeque<QueueSegment>,
+    ) -> Result<Segments, AllocError>
+        requires { AreSegments queue list.items }
+        ensures queue { IfOk result (λ segments. queue_of segments ≡ queue) }
+        ensures most { IfOk result (λ segments. most_of segments ≡ most) }
+        ensures list { IfOk result (λ segments. list_of segments ≡ list.items) }
+    {
+        let mut empty = VecDeque::with_capacity(alloc, list.len())?;
+        for index in 0..list.len() {
+            list[index].list_empty(&mut empty);
+        }
+        Ok(Segments {
+            queue,
+            most,
+            list,
+            empty,
+        })
     }
 
     /// The place of the lowest finished segment. `None` exactly where none is finished.
@@ -50,12 +81,13 @@ impl Segments {
         ensures first { result ≡ first_over (most_of self.now) (list_of self.now) }
         ensures over { IfSome result (CanRemove self.now) }
     {
-        for index in 0..self.list.len() {
-            if self.list[index].is_over(index + 1 < self.list.len(), self.most) {
-                return Some(index);
-            }
+        let lowest = self.empty.front()?;
+        let index = self.place_of(*lowest)?;
+        if self.list[index].is_over(index + 1 < self.list.len(), self.most) {
+            Some(index)
+        } else {
+            None
         }
-        None
     }
 
     /// The place of the segment with this number. `None` exactly where no segment has it.
@@ -80,19 +112,68 @@ impl Segments {
             → AreAt (queue_of self.old) (list_of self.new ++ segment ∷ []) files) }
         ensures err { OnErr result (AreSame (list_of self.old) (list_of self.new)) }
     {
-        self.list.reserve(1)?;
-        match self.list.pop_back() {
+        match self.pop() {
             Some(last) => {
                 if last.has_room(self.most) {
                     self.take_last(last, count)
                 } else {
                     let number = last.number + 1;
-                    self.list.push_back_reserved(last);
-                    QueueSegment::with_room(alloc, self.queue, number, count)
+                    self.push(last);
+                    self.take_new(alloc, number, count)
                 }
             }
-            None => QueueSegment::with_room(alloc, self.queue, 0, count),
+            None => self.take_new(alloc, 0, count),
         }
+    }
+
+    /// A new segment of this number, with the memory for so many entries and for its place behind the others.
+    fn take_new(
+        &mut self,
+        alloc: Global,
+        number: u64,
+        count: usize,
+    ) -> Result<QueueSegment, AllocError>
+        requires { AreBelow number (list_of self.old) }
+        ensures same { SameQueue self.old self.new }
+        ensures list { list_of self.new ≡ list_of self.old }
+        ensures new { IfOk result (IsNew (queue_of self.old) number) }
+        ensures reserved { IfOk result (λ segment. count ≤ reserved_of segment) }
+        ensures follows { IfOk result (CanFollow self.new) }
+    {
+        self.reserve_one()?;
+        QueueSegment::with_room(alloc, self.queue, number, count)
+    }
+
+    /// Reserves memory for one more segment.
+    fn reserve_one(&mut self) -> Result<(), AllocError>
+        ensures same { SameQueue self.old self.new }
+        ensures list { list_of self.new ≡ list_of self.old }
+        ensures room { OnOk result (HasRoom self.new) }
+    {
+        self.list.reserve(1)?;
+        self.empty.reserve(self.list.len() + 1 - self.empty.len())
+    }
+
+    /// Takes out the last segment. `None` exactly where there is none.
+    fn pop(&mut self) -> Option<QueueSegment>
+        ensures same { SameQueue self.old self.new }
+        ensures last { IfSome result (λ last. list_of self.old ≡ list_of self.new ++ last ∷ []) }
+        ensures follows { IfSome result (CanFollow self.new) }
+        ensures none { IfNone result ((list_of self.old ≡ []) × (list_of self.new ≡ [])) }
+    {
+        let last = self.list.pop_back()?;
+        take_out(&mut self.empty, last.number);
+        Some(last)
+    }
+
+    /// Puts a segment behind the others.
+    fn push(&mut self, segment: QueueSegment)
+        requires { CanFollow self.old segment }
+        ensures same { SameQueue self.old self.new }
+        ensures list { list_of self.new ≡ list_of self.old ++ segment ∷ [] }
+    {
+        segment.list_empty(&mut self.empty);
+        self.list.push_back_reserved(segment);
     }
 
     /// Reserves memory in a segment that was the last one; without it, the segment is put back.
@@ -108,7 +189,7 @@ impl Segments {
         match last.reserve(count) {
             Ok(()) => Ok(last),
             Err(error) => {
-                self.list.push_back_reserved(last);
+                self.push(last);
                 Err(error)
             }
         }
@@ -139,7 +220,7 @@ impl Segments {
     {
         let mut segment = segment;
         segment.commit(disk, records, entries)?;
-        self.list.push_back_reserved(segment);
+        self.push(segment);
         Ok(())
     }
 
@@ -160,7 +241,10 @@ impl Segments {
         ensures ran { Ran D.Disk disk.old disk.new (IsErr result) }
         ensures calls { OnOk result (D.moment disk.new ≡ D.moment disk.old + (length at.now + 1)) }
     {
-        self.list[index].gone(disk, at)
+        let segment = &mut self.list[index];
+        let result = segment.gone(disk, at);
+        segment.list_empty(&mut self.empty);
+        result
     }
 
     /// Removes the files of the segment at this place, which has no present entry, index first, and the segment. It takes
@@ -178,7 +262,10 @@ impl Segments {
             → D.moment disk.new ≡ D.moment disk.old + removal_calls p) }
     {
         match self.list.remove(index) {
-            Some(segment) => segment.remove(disk),
+            Some(segment) => {
+                take_out(&mut self.empty, segment.number);
+                segment.remove(disk)
+            }
             // No caller gives a place past the last one.
             None => Ok(()),
         }

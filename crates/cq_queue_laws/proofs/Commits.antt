@@ -5,7 +5,7 @@ use Rattle.std.proofs.lemmas.Bool.{or_parts, or_left, or_right, and_from, cond-t
 use Rattle.cq_journal.specs.declared.event.Event.TheVariants as event
 use Rattle.cq_journal.specs.declared.event.Entry.{Entry}
 use Rattle.cq_journal.proofs.More.{eqb-sym}
-use Rattle.cq_items.specs.declared.item.Item.{Item}
+use Rattle.cq_items.specs.Item.{Item}
 use Rattle.cq_items.specs.declared.item.Stand.{Stand}
 use Rattle.cq_items.specs.declared.item.Passed.{Passed}
 use Rattle.cq_items.specs.declared.item.Holder.{Holder}

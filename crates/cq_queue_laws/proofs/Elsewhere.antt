@@ -9,7 +9,7 @@ use Rattle.cq_journal.specs.declared.event.Entry.{Entry}
 use Rattle.cq_journal.specs.History.{Delivery, open_deliveries, is_delivery, acked}
 use Rattle.cq_journal.specs.Legal.{Legal}
 use Rattle.cq_journal.proofs.More.{is_open_for, one-queue, keys-open}
-use Rattle.cq_items.specs.declared.item.Item.{Item}
+use Rattle.cq_items.specs.Item.{Item}
 use Rattle.cq_items.specs.declared.item.Holder.{Holder}
 use Rattle.cq_items.specs.declared.item.Holder.TheVariants.{Waiting, Out, Gone}
 use Rattle.cq_items.specs.Items.{is_out, is_with, ack_one, back_one}

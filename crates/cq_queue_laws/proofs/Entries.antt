@@ -10,7 +10,7 @@ use Rattle.cq_journal.specs.declared.event.Message.{Message}
 use Rattle.cq_journal.specs.declared.lines.Line.{Line}
 use Rattle.cq_journal.specs.History.{adds, opened_in, settled}
 use Rattle.cq_journal.specs.Legal.{Allowed, Legal}
-use Rattle.cq_items.specs.declared.item.Item.{Item}
+use Rattle.cq_items.specs.Item.{Item}
 use Rattle.cq_items.specs.declared.item.Holder.TheVariants.{Waiting}
 use Rattle.cq_items.specs.Items.{hand_out}
 use Rattle.cq_queue_laws.specs.Follows.{bare, stands, is_unsettled, Follows}

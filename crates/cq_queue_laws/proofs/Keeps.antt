@@ -15,7 +15,7 @@ use Rattle.cq_journal.specs.Legal.{brings, has, IsFirst, Allowed, Legal}
 use Rattle.cq_journal.proofs.More.{eqb-sym, settled-removed}
 use Rattle.cq_journal.proofs.Laws.{acked-unbrought, out-unbrought, distinct-line}
 use Rattle.cq_journal.proofs.Lists.{any-filter, filter-congr, filter-refine, distinct-filter}
-use Rattle.cq_items.specs.declared.item.Item.{Item}
+use Rattle.cq_items.specs.Item.{Item}
 use Rattle.cq_items.specs.declared.item.Holder.{Holder}
 use Rattle.cq_items.specs.declared.item.Holder.TheVariants.{Waiting, Out, Gone}
 use Rattle.cq_items.specs.Items.{is_free, ack_one, back_one, holding, taken_by, new_item, hand_out, ack, give_back, waiting_items}

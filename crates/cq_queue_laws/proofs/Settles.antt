@@ -7,7 +7,7 @@ use Rattle.cq_bytes.specs.Numbers.{contains}
 use Rattle.cq_journal.specs.declared.event.Event.TheVariants as event
 use Rattle.cq_journal.specs.declared.event.Entry.{Entry}
 use Rattle.cq_journal.proofs.More.{eqb-sym}
-use Rattle.cq_items.specs.declared.item.Item.{Item}
+use Rattle.cq_items.specs.Item.{Item}
 use Rattle.cq_items.specs.Items.{settles, lowest_segment, is_in, settling_in, others_in, settling_ids, others_items, has_item}
 use Rattle.cq_queue_laws.specs.Follows.{Follows}
 use Rattle.cq_queue_laws.specs.Laws.{AreOnce, with_settled}

@@ -13,7 +13,7 @@ use Rattle.cq_journal.specs.Legal.{delivered, Legal}
 use Rattle.cq_journal.proofs.Lists.{distinct-filter}
 use Rattle.cq_journal.proofs.Laws.{distinct-line}
 use Rattle.cq_journal.proofs.More.{keys-open, fresh-number}
-use Rattle.cq_items.specs.declared.item.Item.{Item}
+use Rattle.cq_items.specs.Item.{Item}
 use Rattle.cq_items.specs.declared.item.Holder.{Holder}
 use Rattle.cq_items.specs.declared.item.Holder.TheVariants.{Waiting, Out, Gone}
 use Rattle.cq_items.specs.Items.{waiting_items, out_for, is_out, is_out_to, has_item}

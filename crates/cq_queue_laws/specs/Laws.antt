@@ -9,7 +9,7 @@ use Rattle.cq_journal.specs.declared.event.Message.{Message}
 use Rattle.cq_journal.specs.declared.lines.Line.{Line}
 use Rattle.cq_journal.specs.History.{adds, opened_in, line, open_deliveries, is_delivery, waiting, has_id}
 use Rattle.cq_journal.specs.Legal.{delivered, Legal}
-use Rattle.cq_items.specs.declared.item.Item.{Item}
+use Rattle.cq_items.specs.Item.{Item}
 use Rattle.cq_items.specs.declared.item.Stand.{Stand}
 use Rattle.cq_items.specs.declared.item.Passed.{Passed}
 use Rattle.cq_items.specs.declared.item.Holder.TheVariants.{Waiting, Out}

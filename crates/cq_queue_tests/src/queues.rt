@@ -156,7 +156,8 @@ fn mixed(alloc: Global) -> Result<Items, AllocError> {
 
 /// How many bytes the body of the first message that waits has.
 fn first_body(core: &Items) -> Option<usize> {
-    let body = core.first_item()?.body.as_ref()?;
+    let first = core.first_item()?;
+    let body = first.body()?;
     Some(body.bytes().len())
 }
 

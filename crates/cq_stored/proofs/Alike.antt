@@ -6,7 +6,7 @@ use Rattle.cq_bytes.specs.Numbers.{contains}
 use Rattle.cq_entry.specs.declared.entry.EntryKind.{EntryKind}
 use Rattle.cq_journal.specs.declared.event.Message.{Message}
 use Rattle.cq_folder.specs.Holding.{left_out}
-use Rattle.cq_items.specs.declared.item.Item.{Item}
+use Rattle.cq_items.specs.Item.{Item}
 use Rattle.cq_items.specs.declared.item.Stand.{Stand}
 use Rattle.cq_items.specs.declared.item.Holder.{Holder}
 use Rattle.cq_items.specs.declared.item.Holder.TheVariants.{Out}

@@ -11,7 +11,7 @@ use Rattle.cq_journal.specs.History.{Delivery, line, acked, settles, settled, op
 use Rattle.cq_journal.proofs.Lists.{filter-congr, filter-refine}
 use Rattle.cq_folder.specs.Holding.{left_out}
 use Rattle.cq_folder.specs.HeldLaws.{settle_at, settle_all}
-use Rattle.cq_items.specs.declared.item.Item.{Item}
+use Rattle.cq_items.specs.Item.{Item}
 use Rattle.cq_items.specs.declared.item.Holder.{Holder}
 use Rattle.cq_items.specs.declared.item.Holder.TheVariants.{Gone}
 use Rattle.cq_items.specs.Items.{holding}

@@ -15,7 +15,7 @@ use Rattle.cq_queue.specs.Laid.{place_of, next_of}
 use Rattle.cq_folder.specs.Survives.{SurvivesIn}
 use Rattle.cq_folder.proofs.Sublists.{sublist_any, sublist_append, sublist_distinct, in_has, clash}
 use Rattle.cq_folder.proofs.Splits.{sublist_trans, later_sublist}
-use Rattle.cq_items.specs.declared.item.Item.{Item}
+use Rattle.cq_items.specs.Item.{Item}
 use Rattle.cq_items.specs.declared.item.Holder.TheVariants.{Out, Gone}
 use Rattle.cq_items.specs.Items.{is_gone, skips, settles, decide, has_item, undecided_items, is_in, lowest_segment, settling_in, settling_ids}
 use Rattle.cq_folder.specs.Holding.{left_out}

@@ -22,7 +22,7 @@ use Rattle.cq_folder.specs.Holding.{left_out}
 use Rattle.cq_folder.specs.HeldLaws.{settle_at, settle_all}
 use Rattle.cq_folder.proofs.Sublists.{sublist_self, sublist_front, clash}
 use Rattle.cq_folder.proofs.Splits.{sublist_trans}
-use Rattle.cq_items.specs.declared.item.Item.{Item}
+use Rattle.cq_items.specs.Item.{Item}
 use Rattle.cq_items.specs.declared.item.Holder.{Holder}
 use Rattle.cq_items.specs.declared.item.Holder.TheVariants.{Waiting}
 use Rattle.cq_items.specs.Items.{ack, ack_one, back_one, hand_out, has_item, holding, new_item, others_items, settling_ids, undecided_items}

@@ -8,7 +8,7 @@ use Rattle.cq_small.specs.Store.{small_name}
 use Rattle.cq_index.specs.Places.{index_name}
 use Rattle.cq_folder.specs.Queue.{content_in, IsSmallAt, IsIndexAt}
 use Rattle.cq_folder.specs.Holding.{IsAt}
-use Rattle.cq_items.specs.declared.item.Item.{Item}
+use Rattle.cq_items.specs.Item.{Item}
 use Rattle.cq_items.specs.declared.item.Stand.{Stand}
 use Rattle.cq_queue.specs.declared.segment.QueueSegment.{QueueSegment}
 use Rattle.cq_queue.specs.QueueSegment.{KnowsFiles}

@@ -9,7 +9,7 @@ use Rattle.cq_journal.specs.Lists.{IsIn}
 use Rattle.cq_journal.specs.History.{acked}
 use Rattle.cq_journal.proofs.Lists.{any-filter}
 use Rattle.cq_folder.proofs.Sublists.{clash}
-use Rattle.cq_items.specs.declared.item.Item.{Item}
+use Rattle.cq_items.specs.Item.{Item}
 use Rattle.cq_items.specs.declared.item.Stand.{Stand}
 use Rattle.cq_items.specs.declared.item.Passed.{Passed}
 use Rattle.cq_items.specs.Items.{is_gone, skips, decide, has_item, undecided, undecided_items}

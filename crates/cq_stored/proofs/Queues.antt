@@ -17,7 +17,7 @@ use Rattle.cq_folder.specs.Standing.{IsQuiet}
 use Rattle.cq_folder.specs.Holding.{left_out}
 use Rattle.cq_folder.specs.HeldLaws.{settle_all}
 use Rattle.cq_folder.proofs.Kept.{keeps_standing}
-use Rattle.cq_items.specs.declared.item.Item.{Item}
+use Rattle.cq_items.specs.Item.{Item}
 use Rattle.cq_items.specs.Items.{new_item, others_items, settling_ids, undecided_items}
 use Rattle.cq_queue.specs.Passing.{Suits, commit_items}
 use Rattle.cq_stored.specs.Stored.{coming}

@@ -11,7 +11,7 @@ use Rattle.cq_folder.specs.Standing.{Standing}
 use Rattle.cq_folder.specs.Holding.{joined, without}
 use Rattle.cq_folder.specs.HeldLaws.{settle_all}
 use Rattle.cq_folder.proofs.KeptHeld.{keeps_held}
-use Rattle.cq_items.specs.declared.item.Item.{Item}
+use Rattle.cq_items.specs.Item.{Item}
 use Rattle.cq_items.specs.Items.{settling_ids}
 use Rattle.cq_queue_laws.specs.Follows.{Follows}
 use Rattle.cq_queue.specs.Files.{ComesHeld, LosesHeld, StaysHeld}

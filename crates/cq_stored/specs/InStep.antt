@@ -11,7 +11,7 @@ use Rattle.cq_journal.specs.History.{has_id, adds, opened_in, line, acked, settl
 use Rattle.cq_journal.specs.Legal.{Legal}
 use Rattle.cq_folder.specs.Holding.{left_out}
 use Rattle.cq_folder.specs.HeldLaws.{settle_all}
-use Rattle.cq_items.specs.declared.item.Item.{Item}
+use Rattle.cq_items.specs.Item.{Item}
 use Rattle.cq_items.specs.declared.item.Passed.{Passed}
 use Rattle.cq_items.specs.declared.item.Holder.TheVariants.{Waiting}
 use Rattle.cq_items.specs.Items.{ack, has_item, new_item, others_items, settling_ids, undecided_items}

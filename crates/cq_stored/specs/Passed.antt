@@ -4,7 +4,7 @@ use Rattle.cq_bytes.specs.Numbers.{contains}
 use Rattle.cq_journal.specs.declared.event.Entry.{Entry}
 use Rattle.cq_journal.specs.Lists.{IsIn}
 use Rattle.cq_journal.specs.History.{acked}
-use Rattle.cq_items.specs.declared.item.Item.{Item}
+use Rattle.cq_items.specs.Item.{Item}
 use Rattle.cq_items.specs.declared.item.Passed.{Passed}
 use Rattle.cq_items.specs.Items.{has_item, undecided_items}
 use Rattle.cq_queue_laws.specs.Follows.{Follows}

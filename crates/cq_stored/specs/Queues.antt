@@ -12,7 +12,7 @@ use Rattle.cq_folder.specs.Folder.{Sharing}
 use Rattle.cq_folder.specs.Standing.{Standing, Confirm, confirm_at, IsQuiet}
 use Rattle.cq_folder.specs.Holding.{joined, without}
 use Rattle.cq_folder.specs.HeldLaws.{settle_at, settle_all}
-use Rattle.cq_items.specs.declared.item.Item.{Item}
+use Rattle.cq_items.specs.Item.{Item}
 use Rattle.cq_items.specs.Items.{ack, has_item, new_item, others_items, settling_ids, undecided_items}
 use Rattle.cq_queue_laws.specs.Laws.{items_after}
 use Rattle.cq_queue.specs.Files.{ComesHeld, LosesHeld, StaysHeld}

@@ -12,7 +12,7 @@ use Rattle.cq_journal.specs.History.{has_id, adds, line, acked, settled}
 use Rattle.cq_journal.specs.Legal.{Legal, has}
 use Rattle.cq_folder.specs.Survives.{makes_sure, SurvivesIn}
 use Rattle.cq_folder.specs.Holding.{left_out}
-use Rattle.cq_items.specs.declared.item.Item.{Item}
+use Rattle.cq_items.specs.Item.{Item}
 use Rattle.cq_items.specs.Items.{undecided_items, settling_ids, others_items}
 use Rattle.cq_queue_laws.specs.Laws.{AreOnce}
 use Rattle.cq_queue_laws.specs.Follows.{is_unsettled, Follows}

@@ -1,21 +1,20 @@
 // The entries that aren't decided yet, and passing the first of them.
 ghost use Rattle.cq_items.specs.declared.item.Stand.{Stand};
 ghost use Rattle.cq_items.specs.Items.{holder_of, IsHeldBy, IsPassed, is_free, is_gone, MayKeep, MayPass, pass_first, undecided_items};
-ghost use Rattle.std.specs.Option.{option_copied};
 ghost use Rattle.std.specs.Prelude.{map, slice_get, ◌≡◌, true, false, not, ◌||◌, None, Some, IsSome};
 
 use crate::slots::{commit, empty};
-use crate::{Holder, Item, Items, Passed, Stand};
+use crate::{Holder, Items, Message, Passed, Stand};
 
 impl Items {
     /// The message of the undecided entry at this place from the front. `None` exactly past the last.
-    pub fn undecided_item(&self, at: usize) -> Option<&Item>
-        ensures { option_copied result ≡ slice_get (undecided_items self.now.items) at }
+    pub fn undecided_item(&self, at: usize) -> Option<Message<'_>>
+        ensures { result ≡ slice_get (undecided_items self.now.items) at }
     {
         if at >= self.slots.len() - self.first {
             return None;
         }
-        self.slots[self.first + at].as_ref()
+        self.slots[self.first + at].message()
     }
 
     /// The id of the undecided entry at this place from the front. `None` exactly past the last.
@@ -23,7 +22,7 @@ impl Items {
         ensures { result ≡ slice_get (map (λ i. i.id) (undecided_items self.now.items)) at }
     {
         match self.undecided_item(at) {
-            Some(item) => Some(item.id),
+            Some(item) => Some(item.id()),
             None => None,
         }
     }
@@ -44,9 +43,9 @@ impl Items {
         ensures { result ≡ holder_of id (undecided_items self.now.items) }
     {
         for at in self.first..self.slots.len() {
-            if let Some(item) = &self.slots[at] {
-                if item.id == id {
-                    return Some(item.holder);
+            if let Some(item) = self.slots[at].message() {
+                if item.id() == id {
+                    return Some(item.holder());
                 }
             }
         }
@@ -62,8 +61,8 @@ impl Items {
     {
         match self.undecided_item(0) {
             Some(item) => {
-                let id = item.id;
-                let holder = item.holder;
+                let id = item.id();
+                let holder = item.holder();
                 let kept = self.pass_held(holder, skip, stand);
                 self.tidy();
                 Passed { id, kept }

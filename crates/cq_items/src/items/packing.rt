@@ -4,26 +4,27 @@ ghost use Rattle.cq_items.specs.Line.{put_in};
 ghost use Rattle.cq_items.specs.Slots.{alive, passes, places};
 ghost use Rattle.cq_items.specs.Outs.{find};
 ghost use Rattle.cq_items.specs.Queue.{AreOutOnce, FindsOut};
-ghost use Rattle.std.specs.Prelude.{length, ◌≡◌, ◌<◌, ◌≤◌, ◌++◌, ◌∷◌, [], ℕ, true, if◌then◌else◌, is_some, Some};
+ghost use Rattle.std.specs.Prelude.{length, ◌≡◌, ◌<◌, ◌≤◌, ◌^◌, ◌++◌, ◌∷◌, [], ℕ, true, if◌then◌else◌, is_some, Some};
 
 use crate::heap::Heap;
 use crate::line::Line;
 use crate::outs::Outs;
+use crate::slot::Slot;
 use crate::slots::close_up;
-use crate::{Holder, Item, Items};
+use crate::{Holder, Items};
 use std::collections::VecDeque;
 
 /// How many places are empty before it is worth while to close them up.
 const FEWEST_EMPTY: usize = 64;
 
 /// Notes the place of a message that waits.
-fn note_waiting(waiting: &mut Line, slot: &Option<Item>, at: usize)
+fn note_waiting(waiting: &mut Line, slot: &Slot, at: u32)
     requires { passes waits slot.now ≡ true → length waiting.old.items < waiting.old.room }
     ensures items { waiting.new.items ≡ waiting.old.items ++ (if passes waits slot.now then at ∷ [] else []) }
     ensures capacity { waiting.new.room ≡ waiting.old.room }
 {
-    if let Some(item) = slot {
-        match item.holder {
+    if let Some(item) = slot.message() {
+        match item.holder() {
             Holder::Waiting => waiting.push(at),
             Holder::Out { .. } => {}
             Holder::Gone => {}
@@ -32,15 +33,15 @@ fn note_waiting(waiting: &mut Line, slot: &Option<Item>, at: usize)
 }
 
 /// Notes the place of a message that is out.
-fn note_out(outs: &mut Outs, slot: &Option<Item>, at: usize)
+fn note_out(outs: &mut Outs, slot: &Slot, at: u32)
     requires { (c d : ℕ) → passes (out_for c d) slot.now ≡ true → is_some (find c d outs.old.held) ≡ true }
     ensures places { (x y : ℕ)
         → find x y outs.new.held ≡ (if passes (out_for x y) slot.now then Some at else find x y outs.old.held) }
     ensures len { length outs.new.held ≡ length outs.old.held }
     ensures room { outs.new.room ≡ outs.old.room }
 {
-    if let Some(item) = slot {
-        match item.holder {
+    if let Some(item) = slot.message() {
+        match item.holder() {
             Holder::Out { client, delivery } => outs.move_to(client, delivery, at),
             Holder::Waiting => {}
             Holder::Gone => {}
@@ -49,15 +50,15 @@ fn note_out(outs: &mut Outs, slot: &Option<Item>, at: usize)
 }
 
 /// Notes the place of a message that is committed and acknowledged.
-fn note_settling(gone: &mut Heap, slot: &Option<Item>, at: usize)
+fn note_settling(gone: &mut Heap, slot: &Slot, at: u32)
     requires { passes settles slot.now ≡ true → length gone.old.items < gone.old.room }
     ensures items { gone.new.items ≡ (if passes settles slot.now then put_in at gone.old.items else gone.old.items) }
     ensures room { gone.old.room ≤ gone.new.room }
 {
-    if let Some(item) = slot {
-        match item.holder {
+    if let Some(item) = slot.message() {
+        match item.holder() {
             Holder::Gone => {
-                if item.stand.is_some() {
+                if item.stand().is_some() {
                     gone.put(at);
                 }
             }
@@ -68,7 +69,8 @@ fn note_settling(gone: &mut Heap, slot: &Option<Item>, at: usize)
 }
 
 /// Notes afresh which place waits, is out or is to be settled.
-fn renumber(slots: &VecDeque<Option<Item>>, waiting: &mut Line, outs: &mut Outs, gone: &mut Heap)
+fn renumber(slots: &VecDeque<Slot>, waiting: &mut Line, outs: &mut Outs, gone: &mut Heap)
+    requires few { length slots.now.items < 2 ^ 32 }
     requires known { (c d : ℕ) → is_some (find c d outs.old.held) ≡ is_out_to c d (alive slots.now.items) }
     requires once { AreOutOnce (alive slots.now.items) }
     requires waiting_fits { length (waiting_items (alive slots.now.items)) ≤ waiting.old.room }
@@ -83,9 +85,10 @@ fn renumber(slots: &VecDeque<Option<Item>>, waiting: &mut Line, outs: &mut Outs,
     gone.clear();
     for at in 0..slots.len() {
         let slot = &slots[at];
-        note_waiting(waiting, slot, at);
-        note_out(outs, slot, at);
-        note_settling(gone, slot, at);
+        let place = at as u32;
+        note_waiting(waiting, slot, place);
+        note_out(outs, slot, place);
+        note_settling(gone, slot, place);
     }
 }
 

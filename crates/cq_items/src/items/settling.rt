@@ -3,8 +3,9 @@ ghost use Rattle.cq_items.specs.Items.{lowest_segment, others_items, settled_ite
 ghost use Rattle.cq_items.specs.Queue.{AreSettling, IsSettling, SettledOne, left_in};
 ghost use Rattle.std.specs.Prelude.{length, ◌≡◌, Some, IfOk, OnOk, OnErr};
 
+use crate::slot::Slot;
 use crate::slots::{empty, stand_of};
-use crate::{Item, Items, Settling};
+use crate::{Items, Settling};
 use std::alloc::AllocError;
 
 /// A message that left: the place of its entry in its segment, and its id.
@@ -15,15 +16,15 @@ struct Left {
 }
 
 /// What is told of the message at a place, where its entry stands in this segment.
-fn left_in(slot: &Option<Item>, segment: u64) -> Option<Left>
+fn left_in(slot: &Slot, segment: u64) -> Option<Left>
     ensures { result ≡ left_in segment slot.now }
 {
-    if let Some(item) = slot {
-        if let Some(stand) = item.stand {
+    if let Some(item) = slot.message() {
+        if let Some(stand) = item.stand() {
             if stand.segment == segment {
                 return Some(Left {
                     at: stand.at,
-                    id: item.id,
+                    id: item.id(),
                 });
             }
         }
@@ -87,7 +88,7 @@ impl Items {
         ensures { result ≡ lowest_segment self.now.items }
     {
         match self.gone.first() {
-            Some(at) => match stand_of(&self.slots[at]) {
+            Some(at) => match stand_of(&self.slots[at as usize]) {
                 Some(stand) => Some(stand.segment),
                 None => None,
             },
@@ -100,10 +101,10 @@ impl Items {
         ensures { SettledOne segment result self.old self.new }
     {
         match self.gone.first() {
-            Some(at) => match left_in(&self.slots[at], segment) {
+            Some(at) => match left_in(&self.slots[at as usize], segment) {
                 Some(left) => {
                     self.gone.drop_first();
-                    empty(&mut self.slots, at);
+                    empty(&mut self.slots, at as usize);
                     self.empty = self.empty.saturating_add(1);
                     Some(left)
                 }

@@ -52,15 +52,12 @@ impl QueueCore {
         ensures ran { Ran D.Disk disk.old disk.new (IsErrOf result queue_fault) }
     {
         let list = join(alloc, queue, segments, stores)?;
+        let segments = Segments::of(alloc, queue, length, list)?;
         let mut items = Items::new(alloc);
-        match find_all(alloc, disk, queue, &list, &mut items) {
+        match find_all(alloc, disk, queue, &segments.list, &mut items) {
             Ok(()) => Ok(QueueCore {
                 items,
-                segments: Segments {
-                    queue,
-                    most: length,
-                    list,
-                },
+                segments,
                 halted: false,
             }),
             Err(error) => Err(error),
@@ -76,7 +73,7 @@ impl QueueCore {
         let Some(item) = self.items.fresh_item(at) else {
             return None;
         };
-        let Some(stand) = item.stand else {
+        let Some(stand) = item.stand() else {
             return None;
         };
         let name = Name {
@@ -85,9 +82,9 @@ impl QueueCore {
             number: stand.segment,
         };
         let entry = Entry {
-            kind: item.kind,
-            len: item.len,
-            id: item.id,
+            kind: item.kind(),
+            len: item.len(),
+            id: item.id(),
             place: stand.place,
         };
         Some((name, stand.at, entry))

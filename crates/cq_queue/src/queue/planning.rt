@@ -2,19 +2,21 @@
 ghost use Rattle.std.specs.Prelude.{◌≡◌, ◌≤◌, ◌<◌, ◌+◌, ◌-◌, ◌*◌, ◌^◌, ℕ, List, [], length, slice_get, IfNone, IfOk, OnOk};
 ghost use Rattle.std.specs.List.{AllByRecursion};
 ghost use Rattle.std.specs.Option.{option_copied};
-ghost use Rattle.cq_bytes.specs.Numbers.{contains};
+ghost use Rattle.std.specs.Ordering.{nat_cmp};
+ghost use Rattle.std.specs.BTreeSet.{contains};
 ghost use Rattle.cq_entry.specs.Entry.{IsEntry};
 ghost use Rattle.cq_items.specs.Items.{skips, undecided_items};
-ghost use Rattle.cq_queue.specs.Planning.{CanPassPlan, HasKept, HasPlanned, HasRecord, IsEmptyPlan, IsPlan, IsReadBack};
+ghost use Rattle.cq_queue.specs.Planning.{CanPassPlan, HasIds, HasKept, HasPlanned, HasRecord, IsEmptyPlan, IsPlan, IsReadBack};
 ghost use Rattle.cq_queue.specs.Passing.{IsReady, MaySkip, commit_items};
 ghost use Rattle.cq_queue.specs.Tied.{pick_of, room_of};
 ghost use Rattle.cq_queue.specs.Calls.{list_of, most_of};
 
 use crate::{QueueSegment, Segments};
 use cq_entry::{Entry, EntryKind};
-use cq_items::{Holder, Item, Items, Passed, Stand};
+use cq_items::{Holder, Items, Message, Passed, Stand};
 use cq_small::SmallBatch;
 use std::alloc::{AllocError, Global};
+use std::collections::BTreeSet;
 
 /// What a commit passes, and the records and the entries of what it keeps.
 #[derive(Drop)]
@@ -29,10 +31,21 @@ pub(crate) struct Plan {
 }
 
 /// Whether a commit skips this message: it was asked to, or nobody needs it any more.
-fn is_skipped(item: &Item, skip: &[u128]) -> bool
-    ensures { result ≡ skips (contains skip.now item.now.id) item.now }
+fn is_skipped(item: &Message<'_>, skip: &BTreeSet<u128>) -> bool
+    ensures { result ≡ skips (contains nat_cmp skip.now item.now.id) item.now }
 {
-    skip.contains(&item.id) || matches!(item.holder, Holder::Gone)
+    skip.contains(&item.id()) || matches!(item.holder(), Holder::Gone)
+}
+
+/// The set of these ids, so that each is found without a look at them all.
+fn set_of(alloc: Global, ids: &[u128]) -> Result<BTreeSet<u128>, AllocError>
+    ensures { IfOk result (HasIds ids.now) }
+{
+    let mut set = BTreeSet::new(alloc);
+    for id in ids {
+        set.insert(*id)?;
+    }
+    Ok(set)
 }
 
 /// The entry with these fields, which is read back as itself.
@@ -62,9 +75,10 @@ pub(crate) fn plan_of(
     requires place { base ≤ 2 ^ 62 }
     ensures { IfOk result (IsPlan skip.now room base (undecided_items items.now.items)) }
 {
+    let skipped = set_of(alloc, skip)?;
     let mut plan = Plan::new(alloc, room, base);
     while let Some(item) = items.undecided_item(plan.passed.len()) {
-        if !plan.add(item, skip)? {
+        if !plan.add(&item, &skipped)? {
             return Ok(plan);
         }
     }
@@ -86,14 +100,15 @@ impl Plan {
     }
 
     /// Plans one message more. False exactly where it is to be kept and there is no room.
-    fn add(&mut self, item: &Item, skip: &[u128]) -> Result<bool, AllocError>
+    fn add(&mut self, item: &Message<'_>, skipped: &BTreeSet<u128>) -> Result<bool, AllocError>
         requires ready { IsReady item.now }
         requires place { self.old.end ≤ 2 ^ 63 }
-        ensures { IfOk result (HasPlanned skip.now item.now self.old self.new) }
+        ensures { IfOk result (λ planned. (skip : List ℕ) → HasIds skip skipped.now
+            → HasPlanned skip item.now self.old self.new planned) }
     {
-        if is_skipped(item, skip) {
+        if is_skipped(item, skipped) {
             self.passed.push(Passed {
-                id: item.id,
+                id: item.id(),
                 kept: false,
             })?;
             return Ok(true);
@@ -106,17 +121,17 @@ impl Plan {
     }
 
     /// Plans one message more, which is kept.
-    fn keep(&mut self, item: &Item) -> Result<(), AllocError>
+    fn keep(&mut self, item: &Message<'_>) -> Result<(), AllocError>
         requires ready { IsReady item.now }
         requires room { 0 < self.old.room }
         requires place { self.old.end ≤ 2 ^ 63 }
         ensures { OnOk result (HasKept item.now self.old self.new) }
     {
         let place = self.add_record(item)?;
-        let entry = entry_of(item.kind, item.len, item.id, place);
+        let entry = entry_of(item.kind(), item.len(), item.id(), place);
         self.entries.push(entry)?;
         self.passed.push(Passed {
-            id: item.id,
+            id: item.id(),
             kept: true,
         })?;
         self.room -= 1;
@@ -125,20 +140,20 @@ impl Plan {
 
     /// Adds the record of a small message, and answers the place that its entry says: where its record will stand, 0
     /// for a shared one.
-    fn add_record(&mut self, item: &Item) -> Result<u64, AllocError>
+    fn add_record(&mut self, item: &Message<'_>) -> Result<u64, AllocError>
         requires ready { IsReady item.now }
         requires place { self.old.end ≤ 2 ^ 63 }
         ensures { IfOk result (HasRecord item.now self.old self.new) }
     {
-        if let EntryKind::Shared = item.kind {
+        if let EntryKind::Shared = item.kind() {
             return Ok(0);
         }
-        let Some(body) = &item.body else {
+        let Some(body) = item.body() else {
             return Ok(0);
         };
         self.records.push(body.bytes())?;
         let place = self.end;
-        self.end += u64::from(item.len) + 5;
+        self.end += u64::from(item.len()) + 5;
         Ok(place)
     }
 }

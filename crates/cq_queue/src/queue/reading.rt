@@ -66,14 +66,14 @@ impl QueueCore {
         let Some(first) = self.items.first_item() else {
             unreachable!();
         };
-        if let Some(stand) = first.stand {
+        if let Some(stand) = first.stand() {
             let Some(index) = self.segments.place_of(stand.segment) else {
                 unreachable!();
             };
             self.segments.read(disk, index, stand.place, into)?;
             return Ok(());
         }
-        let Some(body) = &first.body else {
+        let Some(body) = first.body() else {
             unreachable!();
         };
         into.copy_from_slice(body.bytes());

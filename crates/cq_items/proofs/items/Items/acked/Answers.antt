@@ -1,7 +1,7 @@
 use Rattle.std.proofs.Common.{◌≡◌, cond, List, ℕ, length, sym, ap, ◌∙◌, arith, length-set}
 use Rattle.std.specs.Prelude.{None, Option}
 use Rattle.std.proofs.lemmas.List.{get_or_read}
-use Rattle.cq_items.specs.declared.item.Item.{Item}
+use Rattle.cq_items.specs.Item.{Item}
 use Rattle.cq_items.specs.declared.item.Holder.TheVariants.{Gone}
 use Rattle.cq_items.specs.Items.{committed, waits, is_free}
 use Rattle.cq_items.specs.Line.{put_in}

@@ -1,5 +1,5 @@
 use Rattle.std.proofs.Common.{◌≡◌, ◌<◌, false, List, length, sym, ap, ◌∙◌, subst, arith, length-set}
-use Rattle.cq_items.specs.declared.item.Item.{Item}
+use Rattle.cq_items.specs.Item.{Item}
 use Rattle.cq_items.specs.declared.item.Holder.TheVariants.{Out}
 use Rattle.cq_items.specs.Items.{is_out_to, waiting_items}
 use Rattle.cq_items.specs.Slots.{slot_at, handed_to, alive}

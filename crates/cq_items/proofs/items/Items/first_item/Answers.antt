@@ -15,7 +15,7 @@ pub returns-in-Some : goal.returns-in-Some
 returns-in-Some c =
     let f : IsFirstPlace 0 c.self.inside.slots.items c.in-Some.at (drop 1 c.self.inside.waiting.items) = indexed-first c.self.inside.slots.items c.self.inside.waiting.items (drop 1 c.self.inside.waiting.items) c.self.inside.outs.held c.self.inside.gone.items c.self.inside.first c.in-Some.at c.self.invariant.0
     (headed c.self.inside.waiting.items c.in-Some.at (sym c.first.ensures ∙ c.in-Some.is)) in
-    rw (← c.self.view_is) (c.as_ref.ensures.value
+    rw (← c.self.view_is) (c.message.ensures
     ∙ get_or_read c.self.inside.slots.items c.in-Some.at c.index.result.now (first-within c.self.inside.slots.items c.in-Some.at (drop 1 c.self.inside.waiting.items) f) c.index.ensures None
     ∙ sym (first-get c.self.inside.slots.items c.in-Some.at (drop 1 c.self.inside.waiting.items) f))
 

@@ -1,7 +1,7 @@
 use Rattle.std.proofs.Common.{◌≡◌, ◌+◌, List, ℕ, length, refl, ap, ◌∙◌, arith, length-set}
 use Rattle.std.specs.Prelude.{Option}
 use Rattle.std.proofs.lemmas.List.Edits.{length-insert}
-use Rattle.cq_items.specs.declared.item.Item.{Item}
+use Rattle.cq_items.specs.Item.{Item}
 use Rattle.cq_items.specs.declared.item.Holder.TheVariants.{Waiting}
 use Rattle.cq_items.specs.Items.{waits, is_free, give_back, count_out}
 use Rattle.cq_items.specs.Slots.{slot_at, held_by, passes, alive}

@@ -1,6 +1,6 @@
 use Rattle.std.proofs.Common.{◌≡◌, List, length, sym, ap, ◌∙◌, subst, arith, length-set}
 use Rattle.std.specs.Prelude.{Option, option_map}
-use Rattle.cq_items.specs.declared.item.Item.{Item}
+use Rattle.cq_items.specs.Item.{Item}
 use Rattle.cq_items.specs.Items.{decide, MayKeep, undecided_items}
 use Rattle.cq_items.specs.Slots.{slot_at, alive}
 use Rattle.cq_items.specs.Queue.{Queue}

@@ -1,6 +1,6 @@
 use Rattle.std.proofs.Common.{◌≡◌, List, length, sym, ap, ◌∙◌, subst, arith, length-set}
 use Rattle.std.specs.Prelude.{Option, None}
-use Rattle.cq_items.specs.declared.item.Item.{Item}
+use Rattle.cq_items.specs.Item.{Item}
 use Rattle.cq_items.specs.declared.item.Holder.TheVariants.{Gone}
 use Rattle.cq_items.specs.Items.{waits, is_free, is_gone, IsHeldBy, undecided_items}
 use Rattle.cq_items.specs.Slots.{passes, alive}

@@ -1,6 +1,6 @@
 use Rattle.std.proofs.Common.{◌≡◌, ◌≤◌, ◌-◌, List, length, subst, sym, ap, ◌∙◌, arith}
 use Rattle.std.specs.Prelude.{Option}
-use Rattle.cq_items.specs.declared.item.Item.{Item}
+use Rattle.cq_items.specs.Item.{Item}
 use Rattle.cq_items.specs.Items.{undecided, is_fresh, waits, settles, is_out_to, waiting_items, settled_items}
 use Rattle.cq_items.specs.Slots.{alive}
 use Rattle.cq_items.specs.Queue.{AreOutOnce, IsSplit}
@@ -20,6 +20,9 @@ pub overflow_sub-self-2 : goal.overflow_sub-self-2
 overflow_sub-self-2 c =
     let k : IsClosed is_fresh c.self.inside.slots.items c.self.inside.unseen = closed is_fresh c.self.inside.slots.items c.self.inside.unseen c.self.invariant.2.split in
     omega (arith, k.counts, ap length c.close_up.ensures.slots, c.self.invariant.2.split.within)
+
+pub renumber-requires-clause-few : goal.renumber-requires-clause-few
+renumber-requires-clause-few c = omega (arith, ap length c.close_up.ensures.slots, fewer-closed c.self.inside.slots.items, c.self.invariant.1.few)
 
 pub renumber-requires-clause-known : goal.renumber-requires-clause-known
 renumber-requires-clause-known c = λ a b. outs-known c.self.inside.slots.items c.self.inside.outs.held c.self.invariant.0.finds_out a b

@@ -1,5 +1,5 @@
 use Rattle.std.proofs.Common.{true, List, ap, ◌∙◌, subst}
-use Rattle.cq_items.specs.declared.item.Item.{Item}
+use Rattle.cq_items.specs.Item.{Item}
 use Rattle.cq_items.specs.declared.item.Holder.{Holder}
 use Rattle.cq_items.specs.declared.item.Holder.TheVariants.{Gone}
 use Rattle.cq_items.specs.Items.{IsHeldBy, undecided_items}

@@ -1,7 +1,7 @@
 use Rattle.std.proofs.Common.{◌≡◌, ◌++◌, ◌∷◌, [], cond, true, List, ℕ, length, take, sym, ap, ◌∙◌, arith}
 use Rattle.std.specs.Prelude.{Option, None, Some}
 use Rattle.std.proofs.lemmas.List.{get_or_read, take_all}
-use Rattle.cq_items.specs.declared.item.Item.{Item}
+use Rattle.cq_items.specs.Item.{Item}
 use Rattle.cq_items.specs.Items.{waits, out_for, settles}
 use Rattle.cq_items.specs.Slots.{slot_at, passes, places}
 use Rattle.cq_items.specs.Line.{put_in}

@@ -2,7 +2,7 @@ use Rattle.std.proofs.Common.{rules, ◌≡◌, ◌≤◌, ◌+◌, ◌++◌, �
 use Rattle.std.specs.Prelude.{vec_len}
 use Rattle.std.proofs.lemmas.Bool.{eqb-false, eqb-true}
 use Rattle.cq_entry.specs.declared.entry.Entry.{Entry as IndexEntry}
-use Rattle.cq_items.specs.declared.item.Item.{Item}
+use Rattle.cq_items.specs.Item.{Item}
 use Rattle.cq_items.specs.Queue.{Queue}
 use Rattle.cq_queue.specs.Lists.{AreAt, AreBelow}
 use Rattle.cq_queue.specs.QueueCalls.{committed_in, kept_in, pick_in, room_in}

@@ -1,20 +1,36 @@
-use Rattle.std.proofs.Common.{◌≡◌, ◌+◌, ◌∙◌, List, length, Some, refl, sym, ap, subst}
+use Rattle.std.proofs.Common.{◌≡◌, ◌≤◌, ◌+◌, ◌∙◌, ℕ, List, length, Some, refl, sym, ap, subst, arith}
+use Rattle.cq_queue.specs.Ascending.{Ascend, removed}
+use Rattle.cq_queue.proofs.Emptied.{empties_ascend, empties_without}
 use Rattle.std.specs.Prelude.{slice_get}
-use Rattle.std.specs.VecDeque.{deque_items}
+use Rattle.std.specs.VecDeque.{deque_capacity}
 use Rattle.std.proofs.lemmas.Option.{slice_get_read}
 use Rattle.cq_disk.specs.Moments.{on_ok}
 use Rattle.cq_queue.specs.declared.segment.QueueSegment.{QueueSegment}
-use Rattle.cq_queue.specs.QueueSegment.{KnowsFiles, RemovesOnly, removal_calls}
-use Rattle.cq_queue.specs.Lists.{AreAt, AreSegments}
-use Rattle.cq_queue.proofs.Changes.{some_same, all_at, either_slot, parts_without, without_changed}
+use Rattle.cq_queue.specs.QueueSegment.{KnowsFiles, RemovesOnly, is_empty, removal_calls}
+use Rattle.cq_queue.specs.Lists.{AreAt, AreSegments, empty_numbers}
+use Rattle.cq_queue.proofs.Changes.{some_same, all_at, parts_without, without_changed}
 use Rattle.cq_queue.proofs.segments.Segments.remove.Goals as goal
+
+pub take_out-requires : goal.take_out-requires
+take_out-requires g c = let s = c.args.self.now in subst Ascend (sym s.empty_are) (empties_ascend s.list.items s.are.1)
 
 pub invariant_of-self : goal.invariant_of-self
 invariant_of-self g c = let s = c.args.self.now in
+    let i = c.args.index in
+    let x = c.in-Some.segment in
+    let ps = s.list.items in
+    let is : slice_get ps i ≡ Some x = slice_get_read ps (length ps) i x refl c.requires.over.within c.in-Some.ensures.value in
+    let long = s.list.ok.0 in
+    let long_new = c.remove.new.self.ok.0 in
+    let fewer = c.in-Some.ensures.len in
+    let was = s.room in
+    let capacity = c.take_out.ensures.capacity in
+    let room : length c.remove.new.self.items ≤ deque_capacity c.take_out.new.numbers = omega (arith, long, long_new, fewer, was, capacity) in
     record {
-      are = either_slot c.remove.result _ _ (AreSegments s.queue c.remove.new.self.items) c.remove.ensures.items c.remove.ensures.unchanged
-          (λ is. subst (AreSegments s.queue) (sym is) (parts_without s.queue s.list.items c.args.index s.are))
-          (λ same. subst (AreSegments s.queue) (sym (ap deque_items same)) s.are);
+      empty_are = c.take_out.ensures.items ∙ ap (removed x.number) s.empty_are
+          ∙ sym (empties_without ps i x s.are.1 is (ap is_empty (c.requires.over.over x is))) ∙ sym (ap empty_numbers c.in-Some.ensures.items);
+      room = room;
+      are = subst (AreSegments s.queue) (sym c.in-Some.ensures.items) (parts_without s.queue ps i s.are);
     }
 
 pub remove-requires-in-Some-clause-knows : goal.remove-requires-in-Some-clause-knows
