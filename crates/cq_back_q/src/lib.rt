@@ -1,0 +1,18 @@
+//! The opening of a queue: its indexes and small stores are opened, and their present entries are read with their bodies,
+//! in order, or the first byte that doesn't fit is told.
+#![tactic(auto)]
+
+mod entry;
+mod error;
+mod files;
+mod found;
+mod named;
+mod numbers;
+mod open;
+mod reading;
+mod segment;
+mod taken;
+
+pub use error::BackError;
+pub use found::{FoundQueue, HeldEntry};
+pub use open::open_queue;
