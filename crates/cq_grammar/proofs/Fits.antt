@@ -1,6 +1,6 @@
 -- Requests, bodies and steps of a script are few.
-use Rattle.std.proofs.Common.{◌≡◌, ℕ, zero, suc, ◌+◌, ◌<◌, ◌≤◌, Bool, true, false, not, cond, List, [], ◌∷◌, ◌++◌, refl, ◌∙◌, subst, length, length-append, take, set, arith, Option, None, Some, Result, Ok, Err}
-use Rattle.std.specs.Prelude.{◌||◌, nat_le, nat_lt, codes}
+use Rattle.std.proofs.Common.{◌≡◌, ℕ, zero, suc, ◌+◌, ◌^◌, ◌<◌, ◌≤◌, Bool, true, false, not, cond, List, [], ◌∷◌, ◌++◌, refl, ap, ◌∙◌, sym, subst, length, length-append, take, set, arith, Option, None, Some, Result, Ok, Err}
+use Rattle.std.specs.Prelude.{◌||◌, nat_le, nat_lt, codes, is_some, ok_or, replicate}
 use Rattle.std.specs.Option.{unwrap_or}
 use Rattle.std.specs.List.{AllByRecursion, list_all}
 use Rattle.std.specs.Str.{bytes_eq}
@@ -17,21 +17,30 @@ use Rattle.cq_grammar.specs.declared.settings.Settings.{Settings}
 use Rattle.cq_grammar.specs.declared.steps.Run.{Run}
 use Rattle.cq_grammar.specs.declared.reading.Reading.{Reading}
 use Rattle.cq_grammar.specs.Words.{◌>>=◌, each, is_printable, is_spaced, words, script_lines, line_ends}
-use Rattle.cq_grammar.specs.Steps.{client_within, run_of, steps_of, crashes, too_many, with_run, with_runs}
-use Rattle.cq_grammar.specs.Requests.{number_on, queue_within, queues_of, body_of, size_of, stream_size, whole_size, requests_of, with_request}
+use Rattle.cq_grammar.specs.Steps.{client_within, run_of, steps_of, crashes, too_many, with_run, with_runs, IsStep}
+use Rattle.cq_grammar.specs.Requests.{number_on, queue_within, queues_of, body_of, size_of, stream_size, whole_size, requests_of, with_request, IsServable}
 use Rattle.cq_grammar.specs.Grammar.{clients_in, queues_in, threshold_in, has_begun, number_within, setting_line, take_client, add, publish_by, get_by, ack_by, end_by, client_now, of_client, with_schedule, take_schedule, take_line, set_or_take, take_words, is_passed_over, read_line, at_line, read_lines, nothing_read, script_of}
-use Rattle.cq_grammar.proofs.Ranges.{then-some, passed, chosen, same-ok, at-ok}
+use Rattle.cq_grammar.proofs.Ranges.{then-some, passed, chosen, same-ok, at-ok, within, setting-early}
+use Rattle.cq_grammar.proofs.Servable.{all-append, queue-small, queues-are, body-short, runs-are, steps-are}
 
 abbrev IsFew : List Request → Type 0
 IsFew requests = length requests ≤ 100000
 
--- there are streams for all clients, and few requests, bodies, steps and crashes
+abbrev pub AreServable : ℕ → List (List Request) → Type 0
+AreServable threshold ss = AllByRecursion (λ requests. AllByRecursion (IsServable threshold) requests) ss
+
+-- there are streams for all clients, and few requests, bodies, steps and crashes; each request and each step can be served
+-- under the numbers that are set, and before them there is none
 pub record Fits (r : Reading) : Type 0 where
   pub sixty_four : length r.streams ≡ 64
   pub few : AllByRecursion (λ requests. length requests ≤ 100000) r.streams
   pub small : whole_size r.streams ≤ 268435456
   pub few_steps : length r.steps ≤ 1000000
   pub few_crashes : crashes r.steps ≤ 1000
+  pub served : AreServable (threshold_in r.settings) r.streams
+  pub steps_are : AllByRecursion (IsStep (clients_in r.settings)) r.steps
+  pub narrow : queues_in r.settings ≤ 256
+  pub before : has_begun r ≡ false → (r.streams ≡ replicate 64 []) × (r.steps ≡ [])
 
 -- ---- one more request
 
@@ -39,6 +48,11 @@ few-set : (ss : List (List Request)) (c : ℕ) (x : List Request) → AllByRecur
 few-set [] c x a f = tt
 few-set (s ∷ ss) zero x a f = (f, a.1)
 few-set (s ∷ ss) (suc c) x a f = (a.0, few-set ss c x a.1 f)
+
+served-set : (threshold : ℕ) (ss : List (List Request)) (c : ℕ) (q : Request) → AreServable threshold ss → IsServable threshold q → AreServable threshold (set ss c (requests_of ss c ++ q ∷ []))
+served-set threshold [] c q a p = tt
+served-set threshold (s ∷ ss) zero q a p = (all-append (IsServable threshold) s (q ∷ []) a.0 (p, tt), a.1)
+served-set threshold (s ∷ ss) (suc c) q a p = (a.0, served-set threshold ss c q a.1 p)
 
 pub cons-size : (s : List Request) (ss : List (List Request)) → whole_size (s ∷ ss) ≡ stream_size s + whole_size ss
 cons-size s ss = omega (arith, sum_by-append stream_size (s ∷ []) ss)
@@ -58,8 +72,8 @@ tested : {A E : Type 0} (b : Bool) (e : E) (rest : Result A E) (x : A) → cond 
 tested true e rest x h = cc
 tested false e rest x h = (refl, h)
 
-add-fits : (r s : Reading) (c : ℕ) (q : Request) → Fits r → add r c q ≡ Ok s → Fits s
-add-fits r s c q f h =
+add-fits : (r s : Reading) (c : ℕ) (q : Request) → Fits r → has_begun r ≡ true → IsServable (threshold_in r.settings) q → add r c q ≡ Ok s → Fits s
+add-fits r s c q f begun can h =
     then-some (with_request r.streams c q) _ s _ h (λ streams e k.
     let more = set r.streams c (requests_of r.streams c ++ q ∷ []) in
     let many = tested (nat_le 100000 (length (requests_of r.streams c))) why.Many _ streams e in
@@ -74,42 +88,55 @@ add-fits r s c q f h =
       small = omega (arith, small, size-set r.streams c q);
       few_steps = f.few_steps;
       few_crashes = f.few_crashes;
+      served = served-set (threshold_in r.settings) r.streams c q f.served can;
+      steps_are = f.steps_are;
+      narrow = f.narrow;
+      before = λ e. cc (begun, e);
     } in
     subst Fits (same-ok _ (record r { streams = streams }) s refl k) (subst (λ (ss : List (List Request)). Fits (record r { streams = ss })) same next))
 
 client-fits : (r s : Reading) (ws : List (List ℕ)) → Fits r → take_client r ws ≡ Ok s → Fits s
 client-fits r s [] f h = cc
 client-fits r s (w ∷ []) f h = then-some (number_on w) _ s _ h (λ n e k. then-some (client_within (clients_in r.settings) n) _ s _ k (λ c g j.
-    subst Fits (same-ok _ (record r { client = Some c }) s refl j) (record { sixty_four = f.sixty_four; few = f.few; small = f.small; few_steps = f.few_steps; few_crashes = f.few_crashes })))
+    subst Fits (same-ok _ (record r { client = Some c }) s refl j) (record { sixty_four = f.sixty_four; few = f.few; small = f.small; few_steps = f.few_steps; few_crashes = f.few_crashes; served = f.served; steps_are = f.steps_are; narrow = f.narrow; before = λ e. cc })))
 client-fits r s (w ∷ v ∷ ws) f h = cc
 
-publish-fits : (r s : Reading) (c : ℕ) (ws : List (List ℕ)) → Fits r → publish_by r c ws ≡ Ok s → Fits s
-publish-fits r s c [] f h = cc
-publish-fits r s c (q ∷ []) f h = cc
-publish-fits r s c (q ∷ kind ∷ ws) f h =
+publish-fits : (r s : Reading) (c : ℕ) (ws : List (List ℕ)) → Fits r → has_begun r ≡ true → publish_by r c ws ≡ Ok s → Fits s
+publish-fits r s c [] f b h = cc
+publish-fits r s c (q ∷ []) f b h = cc
+publish-fits r s c (q ∷ kind ∷ ws) f b h =
     then-some (queues_of (queues_in r.settings) q) (λ qs. (body_of (threshold_in r.settings) (kind ∷ ws) >>= λ body. add r c (Publish qs body))) s _ h
-    (λ qs e k. then-some (body_of (threshold_in r.settings) (kind ∷ ws)) (λ body. add r c (Publish qs body)) s _ k (λ body g j. add-fits r s c (Publish qs body) f j))
+    (λ qs e k. then-some (body_of (threshold_in r.settings) (kind ∷ ws)) (λ body. add r c (Publish qs body)) s _ k (λ body g j.
+    let named = queues-are (queues_in r.settings) q qs e in
+    add-fits r s c (Publish qs body) f b (named.0, named.1, body-short (threshold_in r.settings) (kind ∷ ws) body g) j))
 
-get-fits : (r s : Reading) (c : ℕ) (ws : List (List ℕ)) → Fits r → get_by r c ws ≡ Ok s → Fits s
-get-fits r s c [] f h = cc
-get-fits r s c (w ∷ []) f h =
+get-fits : (r s : Reading) (c : ℕ) (ws : List (List ℕ)) → Fits r → has_begun r ≡ true → get_by r c ws ≡ Ok s → Fits s
+get-fits r s c [] f b h = cc
+get-fits r s c (w ∷ []) f b h =
     then-some (number_on w) (λ n. (queue_within (queues_in r.settings) n >>= λ q. add r c (Get q))) s _ h
-    (λ n e k. then-some (queue_within (queues_in r.settings) n) (λ q. add r c (Get q)) s _ k (λ q g j. add-fits r s c (Get q) f j))
-get-fits r s c (w ∷ v ∷ ws) f h = cc
+    (λ n e k. then-some (queue_within (queues_in r.settings) n) (λ q. add r c (Get q)) s _ k (λ q g j. add-fits r s c (Get q) f b (queue-small (queues_in r.settings) n q f.narrow g) j))
+get-fits r s c (w ∷ v ∷ ws) f b h = cc
 
-ack-fits : (r s : Reading) (c : ℕ) (ws : List (List ℕ)) → Fits r → ack_by r c ws ≡ Ok s → Fits s
-ack-fits r s c [] f h = cc
-ack-fits r s c (w ∷ []) f h =
+delivery-small : (n d : ℕ) → number_within 0 4294967295 n ≡ Ok d → d < 2 ^ 32
+delivery-small n d h = let near : d ≤ 4294967295 = (within 0 4294967295 n d h).1 in omega (arith, near)
+
+ack-fits : (r s : Reading) (c : ℕ) (ws : List (List ℕ)) → Fits r → has_begun r ≡ true → ack_by r c ws ≡ Ok s → Fits s
+ack-fits r s c [] f b h = cc
+ack-fits r s c (w ∷ []) f b h =
     then-some (number_on w) (λ n. (number_within 0 4294967295 n >>= λ d. add r c (Ack d))) s _ h
-    (λ n e k. then-some (number_within 0 4294967295 n) (λ d. add r c (Ack d)) s _ k (λ d g j. add-fits r s c (Ack d) f j))
-ack-fits r s c (w ∷ v ∷ ws) f h = cc
+    (λ n e k. then-some (number_within 0 4294967295 n) (λ d. add r c (Ack d)) s _ k (λ d g j. add-fits r s c (Ack d) f b (delivery-small n d g) j))
+ack-fits r s c (w ∷ v ∷ ws) f b h = cc
 
-end-fits : (r s : Reading) (c : ℕ) (ws : List (List ℕ)) → Fits r → end_by r c ws ≡ Ok s → Fits s
-end-fits r s c [] f h = add-fits r s c End f h
-end-fits r s c (w ∷ ws) f h = cc
+end-fits : (r s : Reading) (c : ℕ) (ws : List (List ℕ)) → Fits r → has_begun r ≡ true → end_by r c ws ≡ Ok s → Fits s
+end-fits r s c [] f b h = add-fits r s c End f b tt h
+end-fits r s c (w ∷ ws) f b h = cc
 
-of-fits : (r s : Reading) (read : ℕ → Result Reading Why) → of_client r read ≡ Ok s → ((c : ℕ) → read c ≡ Ok s → Fits s) → Fits s
-of-fits r s read h k = then-some (client_now r) read s _ h (λ c e j. k c j)
+begins : (o later : Option ℕ) (c : ℕ) → ok_or o why.Client ≡ Ok c → (is_some o || is_some later) ≡ true
+begins (Some x) later c h = refl
+begins None later c h = cc
+
+of-fits : (r s : Reading) (read : ℕ → Result Reading Why) → of_client r read ≡ Ok s → (has_begun r ≡ true → (c : ℕ) → read c ≡ Ok s → Fits s) → Fits s
+of-fits r s read h k = then-some (client_now r) read s _ h (λ c e j. k (begins r.client r.scheduled c e) c j)
 
 -- ---- more steps
 
@@ -139,27 +166,54 @@ schedule-fits n r s (w ∷ ws) f h =
     (λ runs e k. then-some (with_runs r.steps runs) _ s _ k
     (λ steps g j.
     let short = runs-short r.steps steps runs (f.few_steps, f.few_crashes) g in
-    subst Fits (same-ok _ (record r { steps = steps; scheduled = Some (unwrap_or r.scheduled n) }) s refl j) (record { sixty_four = f.sixty_four; few = f.few; small = f.small; few_steps = short.0; few_crashes = short.1 })))
+    subst Fits (same-ok _ (record r { steps = steps; scheduled = Some (unwrap_or r.scheduled n) }) s refl j) (record { sixty_four = f.sixty_four; few = f.few; small = f.small; few_steps = short.0; few_crashes = short.1; served = f.served; steps_are = steps-are (clients_in r.settings) r.steps steps runs f.steps_are (runs-are (clients_in r.settings) (w ∷ ws) runs e) g; narrow = f.narrow; before = λ b. later r.client b })))
+  where
+    later : (o : Option ℕ) → (is_some o || true) ≡ false → {A : Type 0} → A
+    later (Some c) b = cc
+    later None b = cc
 
 -- ---- lines
 
 line-fits : (n : ℕ) (r s : Reading) (w : List ℕ) (ws : List (List ℕ)) → Fits r → take_line n r w ws ≡ Ok s → Fits s
 line-fits n r s w ws f h =
     chosen (bytes_eq w (codes "client")) _ _ s _ h (client-fits r s ws f)
-    (λ h. chosen (bytes_eq w (codes "publish")) _ _ s _ h (λ k. of-fits r s (λ c. publish_by r c ws) k (λ c. publish-fits r s c ws f))
-    (λ h. chosen (bytes_eq w (codes "get")) _ _ s _ h (λ k. of-fits r s (λ c. get_by r c ws) k (λ c. get-fits r s c ws f))
-    (λ h. chosen (bytes_eq w (codes "ack")) _ _ s _ h (λ k. of-fits r s (λ c. ack_by r c ws) k (λ c. ack-fits r s c ws f))
-    (λ h. chosen (bytes_eq w (codes "end")) _ _ s _ h (λ k. of-fits r s (λ c. end_by r c ws) k (λ c. end-fits r s c ws f))
+    (λ h. chosen (bytes_eq w (codes "publish")) _ _ s _ h (λ k. of-fits r s (λ c. publish_by r c ws) k (λ b c k. publish-fits r s c ws f b k))
+    (λ h. chosen (bytes_eq w (codes "get")) _ _ s _ h (λ k. of-fits r s (λ c. get_by r c ws) k (λ b c k. get-fits r s c ws f b k))
+    (λ h. chosen (bytes_eq w (codes "ack")) _ _ s _ h (λ k. of-fits r s (λ c. ack_by r c ws) k (λ b c k. ack-fits r s c ws f b k))
+    (λ h. chosen (bytes_eq w (codes "end")) _ _ s _ h (λ k. of-fits r s (λ c. end_by r c ws) k (λ b c k. end-fits r s c ws f b k))
     (λ h. chosen (bytes_eq w (codes "schedule")) _ _ s _ h (schedule-fits n r s ws f)
     (λ h. cc))))))
 
-set-fits : (n : ℕ) (r s : Reading) (w : List ℕ) (ws : List (List ℕ)) (o : Option (Result Settings Why)) → Fits r → set_or_take n r w ws o ≡ Ok s → Fits s
-set-fits n r s w ws (Some read) f h = then-some read _ s _ h (λ t e k. subst Fits (same-ok _ (record r { settings = t }) s refl k) (record { sixty_four = f.sixty_four; few = f.few; small = f.small; few_steps = f.few_steps; few_crashes = f.few_crashes }))
-set-fits n r s w ws None f h = line-fits n r s w ws f h
+none-served : (threshold n : ℕ) → AreServable threshold (replicate n [])
+none-served threshold zero = tt
+none-served threshold (suc n) = (tt, none-served threshold n)
+
+-- before all clients and schedules any numbers fit
+settings-fit : (r : Reading) (t : Settings) → Fits r → has_begun r ≡ false → queues_in t ≤ 256 → Fits (record r { settings = t })
+settings-fit r t f b narrow =
+    let none = f.before b in
+    record {
+      sixty_four = f.sixty_four;
+      few = f.few;
+      small = f.small;
+      few_steps = f.few_steps;
+      few_crashes = f.few_crashes;
+      served = subst (AreServable (threshold_in t)) (sym none.0) (none-served (threshold_in t) 64);
+      steps_are = subst (AllByRecursion (IsStep (clients_in t))) (sym none.1) tt;
+      narrow = narrow;
+      before = λ e. none;
+    }
+
+set-fits : (n : ℕ) (r s : Reading) (w : List ℕ) (ws : List (List ℕ)) (o : Option (Result Settings Why)) → setting_line (has_begun r) r.settings w ws ≡ o → Fits r → set_or_take n r w ws o ≡ Ok s → Fits s
+set-fits n r s w ws (Some read) is f h =
+    then-some read _ s _ h (λ t e k.
+    let early = setting-early (has_begun r) r.settings t w ws f.narrow (is ∙ ap Some e) in
+    subst Fits (same-ok _ (record r { settings = t }) s refl k) (settings-fit r t f early.0 early.1))
+set-fits n r s w ws None is f h = line-fits n r s w ws f h
 
 words-fit : (n : ℕ) (r s : Reading) (ws : List (List ℕ)) → Fits r → take_words n r ws ≡ Ok s → Fits s
 words-fit n r s [] f h = cc
-words-fit n r s (w ∷ ws) f h = set-fits n r s w ws (setting_line (has_begun r) r.settings w ws) f h
+words-fit n r s (w ∷ ws) f h = set-fits n r s w ws (setting_line (has_begun r) r.settings w ws) refl f h
 
 reading-fits : (n : ℕ) (r s : Reading) (line : List ℕ) → Fits r → read_line n r line ≡ Ok s → Fits s
 reading-fits n r s line f h =
@@ -173,5 +227,5 @@ lines-fit n r s (l ∷ ls) f h = then-some (at_line n (read_line n r l)) _ s _ h
 -- all that a script says fits
 pub script-fits : (bytes : List ℕ) (s : Reading) → script_of bytes ≡ Ok s → Fits s
 script-fits bytes s h =
-    lines-fit 1 nothing_read s (script_lines bytes) (record { sixty_four = refl; few = grind arith; small = omega arith; few_steps = omega arith; few_crashes = omega arith })
+    lines-fit 1 nothing_read s (script_lines bytes) (record { sixty_four = refl; few = grind arith; small = omega arith; few_steps = omega arith; few_crashes = omega arith; served = none-served 4096 64; steps_are = tt; narrow = omega arith; before = λ e. (refl, refl) })
     (passed (nat_lt 67108864 (length bytes)) (script_error.Bad (line_ends (take 67108864 bytes) + 1) why.Long) _ s h)

@@ -2,5 +2,9 @@ pub mod Decimals
 pub mod Each
 pub mod Sizes
 pub mod Ranges
+pub mod Servable
 pub mod Fits
 pub mod Limits
+pub mod Spelled
+pub mod Reread
+pub mod Back

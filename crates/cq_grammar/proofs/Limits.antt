@@ -7,12 +7,12 @@ use Rattle.cq_grammar.specs.declared.script.StepWord.{StepWord}
 use Rattle.cq_grammar.specs.declared.script.Script.{Script}
 use Rattle.cq_grammar.specs.declared.script.ScriptError.{ScriptError}
 use Rattle.cq_grammar.specs.declared.reading.Reading.{Reading}
-use Rattle.cq_grammar.specs.Steps.{crashes}
-use Rattle.cq_grammar.specs.Requests.{whole_size}
-use Rattle.cq_grammar.specs.Grammar.{clients_in, script_of}
+use Rattle.cq_grammar.specs.Steps.{crashes, IsStep}
+use Rattle.cq_grammar.specs.Requests.{whole_size, IsServable}
+use Rattle.cq_grammar.specs.Grammar.{clients_in, threshold_in, script_of}
 use Rattle.cq_grammar.specs.Scripts.{ReadsScript, IsScript, KeepsLimits}
 use Rattle.cq_grammar.proofs.Ranges.{AreInRange, script-in-range}
-use Rattle.cq_grammar.proofs.Fits.{Fits, cons-size, script-fits}
+use Rattle.cq_grammar.proofs.Fits.{Fits, AreServable, cons-size, script-fits}
 
 all-take : {A : Type 0} (P : A → Type 0) (n : ℕ) (xs : List A) → AllByRecursion P xs → AllByRecursion P (take n xs)
 all-take P zero xs a = tt
@@ -38,6 +38,8 @@ keeps-limits r script a f i =
       small_bodies = subst (λ (ss : List (List Request)). whole_size ss ≤ 268435456) (sym i.streams_are) (omega (arith, size-take clients r.streams, f.small));
       few_steps = subst (λ (steps : List StepWord). length steps ≤ 1000000) (sym i.steps_are) f.few_steps;
       few_crashes = subst (λ (steps : List StepWord). crashes steps ≤ 1000) (sym i.steps_are) f.few_crashes;
+      requests_are = subst (λ n. AreServable n script.streams) (sym i.config_is.threshold_is) (subst (AreServable (threshold_in r.settings)) (sym i.streams_are) (all-take (λ (requests : List Request). AllByRecursion (IsServable (threshold_in r.settings)) requests) clients r.streams f.served));
+      steps_are = subst (λ n. AllByRecursion (IsStep n) script.steps) (sym i.config_is.clients_is) (subst (AllByRecursion (IsStep clients)) (sym i.steps_are) f.steps_are);
     }
 
 -- a reader that is exact keeps the limits

@@ -16,7 +16,7 @@ use Rattle.cq_grammar.specs.declared.reading.Reading.{Reading}
 use Rattle.cq_grammar.specs.Words.{◌>>=◌, each, is_printable, is_spaced, words, script_lines, line_ends}
 use Rattle.cq_grammar.specs.Steps.{client_within, run_of, with_runs}
 use Rattle.cq_grammar.specs.Requests.{number_on, queue_within, queues_of, body_of, with_request}
-use Rattle.cq_grammar.specs.Grammar.{clients_in, queues_in, segment_in, threshold_in, limit_in, has_begun, number_within, setting_of, take_clients, take_queues, take_segment, take_threshold, take_limit, take_client, add, publish_by, get_by, ack_by, end_by, client_now, of_client, with_schedule, scheduled_by, take_schedule, take_line, set_or_take, take_words, is_passed_over, read_line, at_line, read_lines, nothing_read, script_of}
+use Rattle.cq_grammar.specs.Grammar.{clients_in, queues_in, segment_in, threshold_in, limit_in, has_begun, number_within, setting_of, take_clients, take_queues, take_segment, take_threshold, take_limit, setting_line, take_client, add, publish_by, get_by, ack_by, end_by, client_now, of_client, with_schedule, scheduled_by, take_schedule, take_line, set_or_take, take_words, is_passed_over, read_line, at_line, read_lines, nothing_read, script_of}
 
 abbrev pub AreInRange : Settings → Type 0
 AreInRange s = IsInRange (clients_in s) (segment_in s) (threshold_in s) (limit_in s)
@@ -39,7 +39,7 @@ same-ok x r s g h = cc
 
 -- ---- a setting is in its range
 
-within : (low high n m : ℕ) → number_within low high n ≡ Ok m → (low ≤ m) × (m ≤ high)
+pub within : (low high n m : ℕ) → number_within low high n ≡ Ok m → (low ≤ m) × (m ≤ high)
 within low high n m h = tested (nat_le low n && nat_le n high) refl h
   where
     tested : (b : Bool) → (nat_le low n && nat_le n high) ≡ b → cond b (Ok n) (Err why.Number) ≡ Ok m → (low ≤ m) × (m ≤ high)
@@ -68,6 +68,40 @@ threshold-kept late s t ws a h = then-some (setting_of late s.threshold 1 65536 
 
 limit-kept : (late : Bool) (s t : Settings) (ws : List (List ℕ)) → AreInRange s → take_limit late s ws ≡ Ok t → AreInRange t
 limit-kept late s t ws a h = then-some (setting_of late s.limit 4096 16777216 ws) _ t _ h (λ n e k. subst AreInRange (same-ok _ (record s { limit = Some n }) t refl k) (a.0, a.1, a.2, setting-within late s.limit 4096 16777216 ws n e))
+
+-- ---- settings are given before all clients and schedules
+
+neither : (a b : Bool) → (a || b) ≡ false → (a ≡ false) × (b ≡ false)
+neither false false h = (refl, refl)
+neither false true h = cc
+neither true b h = cc
+
+refused-none : {A E : Type 0} (b : Bool) (e : E) (rest : Result A E) (r : A) → cond b (Err e) rest ≡ Ok r → b ≡ false
+refused-none true e rest r h = cc
+refused-none false e rest r h = refl
+
+setting-early-of : (late : Bool) (given : Option ℕ) (low high : ℕ) (ws : List (List ℕ)) (m : ℕ) → setting_of late given low high ws ≡ Ok m → late ≡ false
+setting-early-of late given low high [] m h = cc
+setting-early-of late given low high (w ∷ []) m h = (neither late (is_some given) (refused-none (late || is_some given) why.Order _ m h)).0
+setting-early-of late given low high (w ∷ v ∷ ws) m h = cc
+
+same-some : {A E : Type 0} (x : Result A E) (t : A) → Some x ≡ Some (Ok t) → x ≡ Ok t
+same-some x t h = cc
+
+-- a setting is given before all clients and schedules, and the queues stay few
+pub setting-early : (late : Bool) (s t : Settings) (w : List ℕ) (ws : List (List ℕ)) → queues_in s ≤ 256 → setting_line late s w ws ≡ Some (Ok t) → (late ≡ false) × (queues_in t ≤ 256)
+setting-early late s t w ws narrow h = named (bytes_eq w (codes "clients")) (bytes_eq w (codes "queues")) (bytes_eq w (codes "segment")) (bytes_eq w (codes "threshold")) (bytes_eq w (codes "file")) h
+  where
+    kept : (given : Option ℕ) (low high : ℕ) (f : ℕ → Settings) → ((n : ℕ) → (low ≤ n) × (n ≤ high) → queues_in (f n) ≤ 256) → (setting_of late given low high ws >>= λ n. Ok (f n)) ≡ Ok t → (late ≡ false) × (queues_in t ≤ 256)
+    kept given low high f few k = then-some (setting_of late given low high ws) _ t _ k (λ n e j. (setting-early-of late given low high ws n e, subst (λ (x : Settings). queues_in x ≤ 256) (same-ok _ (f n) t refl j) (few n (setting-within late given low high ws n e))))
+
+    named : (b d e f g : Bool) → cond b (Some (take_clients late s ws)) (cond d (Some (take_queues late s ws)) (cond e (Some (take_segment late s ws)) (cond f (Some (take_threshold late s ws)) (cond g (Some (take_limit late s ws)) None)))) ≡ Some (Ok t) → (late ≡ false) × (queues_in t ≤ 256)
+    named true d e f g k = kept s.clients 1 64 (λ n. record s { clients = Some n }) (λ n near. narrow) (same-some (take_clients late s ws) t k)
+    named false true e f g k = kept s.queues 1 256 (λ n. record s { queues = Some n }) (λ n near. near.1) (same-some (take_queues late s ws) t k)
+    named false false true f g k = kept s.segment 16 4096 (λ n. record s { segment = Some n }) (λ n near. narrow) (same-some (take_segment late s ws) t k)
+    named false false false true g k = kept s.threshold 1 65536 (λ n. record s { threshold = Some n }) (λ n near. narrow) (same-some (take_threshold late s ws) t k)
+    named false false false false true k = kept s.limit 4096 16777216 (λ n. record s { limit = Some n }) (λ n near. narrow) (same-some (take_limit late s ws) t k)
+    named false false false false false k = cc
 
 -- ---- other lines keep the settings
 

@@ -4,3 +4,4 @@ pub mod Steps
 pub mod Requests
 pub mod Grammar
 pub mod Scripts
+pub mod Spelling

@@ -1,10 +1,10 @@
 -- The queues and bodies that words spell, and the requests of all clients.
-use Rattle.std.specs.Prelude.{◌≡◌, ◌≤◌, ℕ, ◌+◌, ◌*◌, ◌==◌, ◌&&◌, not, if◌then◌else◌, List, [], ◌∷◌, ◌++◌, length, nat_le, nat_lt, Option, None, Some, Result, Ok, Err, codes, ok_or, replicate, slice_index_or, slice_set}
+use Rattle.std.specs.Prelude.{◌≡◌, ◌<◌, ◌≤◌, ℕ, ◌+◌, ◌*◌, ◌^◌, ◌==◌, ◌&&◌, not, if◌then◌else◌, List, [], ◌∷◌, ◌++◌, length, nat_le, nat_lt, Option, None, Some, Result, Ok, Err, codes, ok_or, replicate, slice_index_or, slice_set}
 use Rattle.std.specs.List.{slice_split, sum_by}
 use Rattle.std.specs.Result.{result_ok}
 use Rattle.std.specs.Str.{bytes_eq}
 use Rattle.hex.specs.Hex.{decode_of}
-use Rattle.cq_bytes.specs.Numbers.{contains}
+use Rattle.cq_bytes.specs.Numbers.{contains, AreQueues}
 use Rattle.cq_inbox.specs.declared.request.Request.{Request}
 use Rattle.cq_inbox.specs.declared.request.Request.TheVariants.{Publish, Get, Ack, End}
 use Rattle.cq_grammar.specs.declared.script.Why.{Why}
@@ -57,6 +57,13 @@ short_enough threshold (Some bytes) = if nat_le (length bytes) 1048576 && nat_lt
 
 abbrev pub body_of : ℕ → List (List ℕ) → Result (List ℕ) Why
 body_of threshold ws = short_enough threshold (bytes_of ws)
+
+-- a request that a script may make: different queues below 256, a body below the threshold, a delivery below 2 ^ 32
+abbrev pub IsServable : ℕ → Request → Type 0
+IsServable threshold (Publish queues body) = (0 < length queues) × AreQueues queues × (length body < threshold)
+IsServable threshold (Get queue) = queue < 256
+IsServable threshold (Ack delivery) = delivery < 2 ^ 32
+IsServable threshold End = Unit {0}
 
 -- how many bytes of bodies a request brings, counted once for each queue
 abbrev pub size_of : Request → ℕ

@@ -6,8 +6,8 @@ use Rattle.cq_grammar.specs.declared.script.Script.{Script}
 use Rattle.cq_grammar.specs.declared.script.ScriptError.{ScriptError}
 use Rattle.cq_grammar.specs.declared.script.ScriptError.TheVariants.{Bad, Memory}
 use Rattle.cq_grammar.specs.declared.reading.Reading.{Reading}
-use Rattle.cq_grammar.specs.Steps.{crashes}
-use Rattle.cq_grammar.specs.Requests.{whole_size}
+use Rattle.cq_grammar.specs.Steps.{crashes, IsStep}
+use Rattle.cq_grammar.specs.Requests.{whole_size, IsServable}
 use Rattle.cq_grammar.specs.Grammar.{clients_in, segment_in, threshold_in, limit_in}
 
 -- the script that all lines together say
@@ -23,7 +23,8 @@ ReadsScript (Ok script) read = (reading : Reading) × (read ≡ Ok reading) × I
 ReadsScript (Err Memory) read = Unit {0}
 ReadsScript (Err (Bad n w)) read = read ≡ Err (Bad n w)
 
--- the numbers are in their ranges, each client has its stream, and requests, bodies, steps and crashes are few
+-- the numbers are in their ranges, each client has its stream, requests, bodies, steps and crashes are few, and each request
+-- and step can be served under these numbers
 pub record KeepsLimits (script : Script) : Type 0 where
   pub in_range : IsInRange (clients_of script.config) (segment_of script.config) (threshold_of script.config) (limit_of script.config)
   pub one_each : length script.streams ≡ clients_of script.config
@@ -31,3 +32,5 @@ pub record KeepsLimits (script : Script) : Type 0 where
   pub small_bodies : whole_size script.streams ≤ 268435456
   pub few_steps : length script.steps ≤ 1000000
   pub few_crashes : crashes script.steps ≤ 1000
+  pub requests_are : AllByRecursion (λ requests. AllByRecursion (IsServable (threshold_of script.config)) requests) script.streams
+  pub steps_are : AllByRecursion (IsStep (clients_of script.config)) script.steps

@@ -1,5 +1,5 @@
 -- The words of a schedule, and the steps that they make.
-use Rattle.std.specs.Prelude.{◌≡◌, ◌≤◌, ℕ, ◌==◌, ◌&&◌, ◌||◌, if◌then◌else◌, Bool, true, false, List, [], ◌∷◌, ◌++◌, length, nat_le, nat_lt, Option, None, Some, Result, Ok, Err, codes, ok_or, replicate}
+use Rattle.std.specs.Prelude.{◌≡◌, ◌<◌, ◌≤◌, ℕ, ◌^◌, ◌==◌, ◌&&◌, ◌||◌, if◌then◌else◌, Bool, true, false, List, [], ◌∷◌, ◌++◌, length, nat_le, nat_lt, Option, None, Some, Result, Ok, Err, codes, ok_or, replicate}
 use Rattle.std.specs.List.{count_by}
 use Rattle.std.specs.Str.{bytes_eq}
 use Rattle.cq_grammar.specs.declared.script.StepWord.{StepWord}
@@ -94,6 +94,21 @@ run_of clients (b ∷ w) =
 -- the steps of a word
 abbrev pub steps_of : Run → List StepWord
 steps_of r = replicate r.times r.step
+
+-- a step within which the disk may stop names one of so many clients, if it names one
+abbrev pub IsHalt : ℕ → Halt → Type 0
+IsHalt clients (halt.Turn c) = c < clients
+IsHalt clients halt.Write = Unit {0}
+IsHalt clients halt.Shift = Unit {0}
+
+-- a step names one of so many clients, if it names one, and its numbers are below 2 ^ 64
+abbrev pub IsStep : ℕ → StepWord → Type 0
+IsStep clients (step.Client c) = c < clients
+IsStep clients (step.Turn c) = c < clients
+IsStep clients step.Write = Unit {0}
+IsStep clients step.Shift = Unit {0}
+IsStep clients (step.Crash image) = image < 2 ^ 64
+IsStep clients (step.Stop image calls s) = (image < 2 ^ 64) × (calls < 2 ^ 64) × IsHalt clients s
 
 -- whether a step ends the session with a crash
 abbrev pub is_crash : StepWord → Bool

@@ -4,6 +4,7 @@ ghost use Rattle.cq_inbox.specs.Config.{IsInRange};
 ghost use Rattle.cq_grammar.specs.Words.{line_ends};
 ghost use Rattle.cq_grammar.specs.Grammar.{clients_in, segment_in, threshold_in, limit_in, is_passed_over, ReadsLines, script_of, read_line, read_lines, nothing_read, at_line, AtLine};
 ghost use Rattle.cq_grammar.specs.Scripts.{ReadsScript, IsScript, KeepsLimits};
+ghost use Rattle.cq_grammar.specs.Spelling.{ReadsSpelled};
 
 use crate::error::LineError;
 use crate::lines::{is_printable, is_spaced, line_ends, script_lines, words};
@@ -33,6 +34,7 @@ const MOST_BYTES: usize = 67_108_864;
 pub fn read_script(alloc: Global, bytes: &[u8]) -> Result<Script, ScriptError>
     ensures exact { ReadsScript result (script_of bytes.now) }
     ensures limits { IfOk result KeepsLimits }
+    ensures spelled { ReadsSpelled result bytes.now }
 {
     script_from(alloc, bytes)
 }
