@@ -1,6 +1,6 @@
-//! Times parts of the store by themselves. A word picks the part: `gates`, `requests`, `packs`, `queues`, or `disks` and a
-//! folder's path; each prints what it did, with nanoseconds or microseconds for each. Without a word it does a little of each
-//! but the last, and takes no time.
+//! Times parts of the store by themselves. A word picks the part: `gates`, `requests`, `packs`, `queues`, or `disks` or
+//! `openings` and a folder's path; each prints what it did, with nanoseconds or microseconds for each. Without a word it does a
+//! little of each but the last two, and takes no time.
 #![tactic(auto)]
 
 mod disks;
@@ -8,6 +8,7 @@ mod file;
 mod gates;
 mod lanes;
 mod locked;
+mod openings;
 mod packs;
 mod queues;
 mod requests;
@@ -43,6 +44,10 @@ fn time<
     match part {
         "disks" => match folder {
             Some(folder) => disks::show(rt, folder),
+            None => println!(rt; "no folder is named"),
+        },
+        "openings" => match folder {
+            Some(folder) => openings::show(rt, folder),
             None => println!(rt; "no folder is named"),
         },
         "gates" => gates::show(rt, true),
