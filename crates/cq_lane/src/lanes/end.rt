@@ -1,8 +1,6 @@
 // What is left in the lanes at the end.
-ghost use Rattle.std.specs.Prelude.{◌≡◌, ℕ, IfOk, MatchResult, vec_len};
-ghost use mathlib.Core.Option.{some};
-ghost use lib.ListN.{get_elem?};
-ghost use Rattle.cq_lane.specs.Lanes.{lane_ids, sender_ids, seat_ids, Drained, Leaves, IsRoom, Room};
+ghost use Rattle.std.specs.Prelude.{◌≡◌, IfOk, MatchResult, vec_len};
+ghost use Rattle.cq_lane.specs.Lanes.{lane_ids, sender_ids, seat_ids, AreRooms, Drained, Leaves};
 
 use super::{LaneSeats, Lanes, Sender};
 use cq_inbox::Request;
@@ -19,9 +17,9 @@ pub struct CloseRefused {
     pub seats: LaneSeats,
 }
 
-/// Empty lists, each with room for what is left of one client.
-fn rooms(alloc: Global, count: usize) -> Result<Vec<Vec<Request>>, AllocError>
-    ensures { IfOk result (λ v. (vec_len v ≡ count) × ((k : ℕ) (w : Room) → get_elem? v.items k ≡ some w → IsRoom w)) }
+/// As many empty lists, each with room for what is left of one client: the memory that `close_into` needs.
+pub fn rooms(alloc: Global, count: usize) -> Result<Vec<Vec<Request>>, AllocError>
+    ensures { IfOk result (AreRooms count) }
 {
     let mut all = Vec::with_capacity(alloc, count)?;
     for _ in 0..count {
@@ -34,8 +32,7 @@ fn rooms(alloc: Global, count: usize) -> Result<Vec<Vec<Request>>, AllocError>
 /// Moves what is left of each client into its list.
 fn drain(lanes: Lanes, mut senders: Vec<Sender>, seats: LaneSeats, rooms: &mut Vec<Vec<Request>>)
     requires ends { (sender_ids senders.items ≡ lane_ids lanes) × (seat_ids seats ≡ lane_ids lanes) }
-    requires rooms { (vec_len rooms.old ≡ vec_len senders)
-        × ((k : ℕ) (w : Room) → get_elem? rooms.old.items k ≡ some w → IsRoom w) }
+    requires rooms { AreRooms (vec_len senders) rooms.old }
     ensures { Drained senders.items seats rooms.new.items }
 {
     let Lanes { mut lanes } = lanes;
@@ -53,8 +50,24 @@ fn drain(lanes: Lanes, mut senders: Vec<Sender>, seats: LaneSeats, rooms: &mut V
     }
 }
 
-/// What is left of each client, in order: what its sender has put, without what was taken. Where there is no memory for
-/// that, all comes back.
+/// What is left of each client, in order: what its sender has put, without what was taken. It goes into `rooms`, one for
+/// each client, and takes no memory.
+pub fn close_into(
+    lanes: Lanes,
+    senders: Vec<Sender>,
+    seats: LaneSeats,
+    mut rooms: Vec<Vec<Request>>,
+) -> Vec<Vec<Request>>
+    requires senders { sender_ids senders.items ≡ lane_ids lanes }
+    requires seats { seat_ids seats ≡ lane_ids lanes }
+    requires rooms { AreRooms (vec_len senders) rooms }
+    ensures { Leaves senders.items seats result.items }
+{
+    drain(lanes, senders, seats, &mut rooms);
+    rooms
+}
+
+/// As `close_into`, with lists of its own. Where there is no memory for them, all comes back.
 pub fn close(
     alloc: Global,
     lanes: Lanes,
@@ -67,10 +80,7 @@ pub fn close(
         (λ r. (r.lanes ≡ lanes) × (r.senders ≡ senders) × (r.seats ≡ seats)) }
 {
     match rooms(alloc, senders.len()) {
-        Ok(mut rooms) => {
-            drain(lanes, senders, seats, &mut rooms);
-            Ok(rooms)
-        }
+        Ok(rooms) => Ok(close_into(lanes, senders, seats, rooms)),
         Err(_) => Err(CloseRefused {
             lanes,
             senders,
