@@ -1,0 +1,6 @@
+pub mod Lists
+pub mod Numbers
+pub mod Steps
+pub mod Publishing
+pub mod Passing
+pub mod Beginning

@@ -1,0 +1,14 @@
+use Rattle.std.proofs.Common.{◌≡◌, ◌<◌, ◌≤◌, length, length-set, sym, subst}
+use Rattle.cq_journal.specs.Legal.{newest}
+use Rattle.cq_history.specs.Accounts.{after_end}
+use Rattle.cq_history.specs.History.{HistoryValue}
+use Rattle.cq_history.proofs.Lists.{changed}
+use Rattle.cq_history.proofs.Steps.{kept-ended, kept_at}
+use Rattle.cq_history.proofs.history.History.end.Goals as goal
+
+pub invariant_of-self : goal.invariant_of-self
+invariant_of-self c =
+    let near : c.args.client < length c.self.inside.clients.items = subst (λ (v : HistoryValue). c.args.client < length v.clients) (sym c.self.view_is) c.requires.ready.near in
+    let later : newest c.self.inside.journal.entries ≤ c.args.stamp = subst (λ (v : HistoryValue). newest v.entries ≤ c.args.stamp) (sym c.self.view_is) c.requires.ready.later in
+    kept_at c.push.ensures.entries (kept-ended c.args.client c.args.stamp _ _ c.self.invariant near later (length-set c.self.inside.clients.items c.args.client c.end.new.self)
+    (changed c.self.inside.clients.items c.args.client c.index_mut.result.now c.end.new.self after_end near c.index_mut.ensures.value c.end.ensures))

@@ -1,0 +1,4 @@
+pub mod History
+pub mod Accounts
+pub mod Kept
+pub mod Steps
