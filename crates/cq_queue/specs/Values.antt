@@ -1,5 +1,5 @@
 -- A queue as its contracts see it, and what its calls in memory ask.
-use Rattle.std.specs.Prelude.{◌≡◌, ℕ, ◌<◌, ◌≤◌, Bool, false, List, [], length, Option, Some, None}
+use Rattle.std.specs.Prelude.{◌≡◌, ℕ, ◌<◌, ◌≤◌, Bool, true, false, List, [], ◌∷◌, length, Option, Some, None}
 use Rattle.cq_disk.specs.declared.name.Name.{Name}
 use Rattle.cq_disk.specs.File.{File}
 use Rattle.cq_items.specs.Item.{Item}
@@ -21,6 +21,11 @@ pub record QueueValue : Type 0 where
 
 abbrev pub value_of : QueueCore → QueueValue
 value_of c = record { items = c.items.items; reserved = c.items.reserved; queue = queue_of c.segments; most = most_of c.segments; segments = list_of c.segments; halted = c.halted }
+
+-- whether a list has an element
+abbrev pub has_some : {A : Type 0} → List A → Bool
+has_some [] = false
+has_some (x ∷ xs) = true
 
 -- a queue without messages and files
 abbrev pub empty_queue : ℕ → ℕ → QueueValue
@@ -46,6 +51,11 @@ pub record IsUnchanged (old new : QueueValue) : Type 0 where
   pub most : new.most ≡ old.most
   pub halted : new.halted ≡ old.halted
   pub segments : AreSame old.segments new.segments
+
+-- the queue of the same number, whose segments get as many entries at most
+pub record IsSameNumber (old new : QueueValue) : Type 0 where
+  pub queue : new.queue ≡ old.queue
+  pub most : new.most ≡ old.most
 
 -- how many entries a segment gets at most
 pub record IsMost (most : ℕ) : Type 0 where

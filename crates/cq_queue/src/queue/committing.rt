@@ -11,7 +11,7 @@ use cq_items::Passed;
 use std::alloc::AllocError;
 
 impl QueueCore {
-    ghost use Rattle.cq_queue.specs.Values.{IsOnDisk, IsRunning, value_of};
+    ghost use Rattle.cq_queue.specs.Values.{IsOnDisk, IsRunning, IsSameNumber, value_of};
     ghost use Rattle.cq_queue.specs.Planning.{IsPlanned};
     ghost use Rattle.cq_queue.specs.QueueCalls.{CanPass, CommitsOnly, HasPassed, KeptAreHeld, Leaves, calls_to_commit};
 
@@ -31,6 +31,7 @@ impl QueueCore {
         ensures numbers { OnOk result ((n : ℕ) → AreBelow n (value_of self.old).segments
             → AreBelow (n + 1) (value_of self.new).segments) }
         ensures err { IfErr result (Leaves (value_of self.old) (value_of self.new) (disk.new ≡ disk.old)) }
+        ensures own { IsSameNumber (value_of self.old) (value_of self.new) }
         ensures at { D.tells → IsRunning (value_of self.new) → IsOnDisk (value_of self.new) (D.files disk.new) }
         ensures held { OnOk result (D.tells → KeptAreHeld D.Disk skip.now (value_of self.old) disk.old disk.new) }
         ensures touches { D.tells → CommitsOnly D.Disk skip.now (value_of self.old) disk.old disk.new }

@@ -40,7 +40,7 @@ impl Segments {
 }
 
 impl QueueCore {
-    ghost use Rattle.cq_queue.specs.Values.{IsOnDisk, IsRunning, value_of};
+    ghost use Rattle.cq_queue.specs.Values.{IsOnDisk, IsRunning, IsSameNumber, value_of};
     ghost use Rattle.cq_queue.specs.QueueCalls.{CanRead, HasBody, IsBodyInMemory, calls_to_read};
 
     /// Fills a buffer with the body of the first message that waits, a small one of this id, whose length is the buffer's:
@@ -57,6 +57,7 @@ impl QueueCore {
         ensures memory { OnOk result (IsBodyInMemory (slice_get (waiting_items (value_of self.old).items) 0) into.new) }
         ensures body { OnOk result (D.tells → HasBody D.Disk (value_of self.old) disk.old id into.new) }
         ensures err { IfErr result (λ error. error ≡ queue_fault) }
+        ensures own { IsSameNumber (value_of self.old) (value_of self.new) }
         ensures at { D.tells → IsRunning (value_of self.new) → IsOnDisk (value_of self.new) (D.files disk.new) }
         ensures reads { D.tells → OnlyReads D.Disk disk.old disk.new }
         ensures ran { Ran D.Disk disk.old disk.new (IsErr result) }

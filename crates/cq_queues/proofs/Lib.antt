@@ -1,0 +1,4 @@
+pub mod Elsewhere
+pub mod Places
+pub mod Marking
+pub mod Loops
