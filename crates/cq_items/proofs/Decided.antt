@@ -1,6 +1,6 @@
 -- Which entries are decided, and what passing one does.
 use Prim.Native.Nat.{zero, suc}
-use Rattle.std.proofs.Common.{◌≡◌, ◌≢◌, ℕ, ◌+◌, ◌<◌, ◌≤◌, Bool, true, false, not, cond, List, [], ◌∷◌, length, get_or, set, drop, refl, sym, ap, ◌∙◌, subst, arith, inl, inr, length-drop}
+use Rattle.std.proofs.Common.{◌≡◌, ◌≢◌, ℕ, ◌+◌, ◌-◌, ◌<◌, ◌≤◌, Bool, true, false, not, cond, List, [], ◌∷◌, length, get_or, set, drop, refl, sym, ap, ◌∙◌, subst, arith, inl, inr, length-drop}
 use Rattle.std.specs.Prelude.{is_some, ◌==◌, ◌||◌, Option, None, Some, slice_get, option_map}
 use Rattle.std.proofs.lemmas.Bool.{cond-true, cond-false, not-true, and_from, eq-eqb, cases_lt}
 use Rattle.std.proofs.lemmas.List.{drop_more, get_or_read}
@@ -45,6 +45,12 @@ undecided-drop (Some i ∷ ss) (suc f) h =
 
 -- ---- what is read
 
+drop-at : (ss : List (Option Item)) (f j : ℕ) → slot_at (drop f ss) j ≡ slot_at ss (f + j)
+drop-at [] zero j = refl
+drop-at [] (suc f) j = refl
+drop-at (s ∷ ss) zero j = ap (slot_at (s ∷ ss)) (omega arith)
+drop-at (s ∷ ss) (suc f) j = drop-at ss f j ∙ ap (slot_at (s ∷ ss)) (let e : suc (f + j) ≡ suc f + j = omega arith in e)
+
 get-alive : (ss : List (Option Item)) (k : ℕ) → ((j : ℕ) → j < length ss → passes undecided (slot_at ss j) ≡ true) → slice_get (alive ss) k ≡ slot_at ss k
 get-alive [] k h = refl
 get-alive (None ∷ ss) k h = let t : false ≡ true = h 0 (omega arith) in cc
@@ -69,6 +75,18 @@ slot-past (s ∷ ss) (suc k) l = slot-past ss k (omega arith)
 
 pub undecided-past : (ss : List (Option Item)) (f k : ℕ) → IsSplit undecided ss f → length ss ≤ f + k → slice_get (undecided_items (alive ss)) k ≡ None
 undecided-past ss f k h l = undecided-get ss f k h ∙ slot-past ss (f + k) l
+
+-- so many are undecided
+length-alive : (ss : List (Option Item)) → ((j : ℕ) → j < length ss → passes undecided (slot_at ss j) ≡ true) → length (alive ss) ≡ length ss
+length-alive [] h = refl
+length-alive (None ∷ ss) h = let t : false ≡ true = h 0 (omega arith) in cc
+length-alive (Some i ∷ ss) h = ap suc (length-alive ss (λ j l. h (suc j) (omega arith)))
+
+pub undecided-count : (ss : List (Option Item)) (f : ℕ) → IsSplit undecided ss f → length ss - f ≡ length (undecided_items (alive ss))
+undecided-count ss f h = sym (length-drop f ss) ∙ sym (length-alive (drop f ss) (λ j l. at j (omega (arith, length-drop f ss, l)))) ∙ ap (λ (is : List Item). length is) (sym (undecided-drop ss f h))
+  where
+    at : (j : ℕ) → f + j < length ss → passes undecided (slot_at (drop f ss) j) ≡ true
+    at j l = ap (passes undecided) (drop-at ss f j) ∙ h.after (f + j) (omega arith) l
 
 -- where nothing is undecided all is decided
 pub all-decided : (ss : List (Option Item)) (f : ℕ) → IsSplit undecided ss f → undecided_items (alive ss) ≡ [] → f ≡ length ss

@@ -114,6 +114,13 @@ impl QueueCore {
         self.items.give_back(client);
     }
 
+    /// How many entries are undecided.
+    pub fn undecided_count(&self) -> usize
+        ensures { result ≡ length (undecided_items (value_of self.now).items) }
+    {
+        self.items.undecided_count()
+    }
+
     /// The id of the undecided entry at this place from the front. `None` exactly past the last.
     pub fn undecided(&self, at: usize) -> Option<u128>
         ensures { result ≡ slice_get (map (λ i. i.id) (undecided_items (value_of self.now).items)) at }

@@ -2,7 +2,7 @@
 ghost use Rattle.std.specs.Prelude.{◌≡◌, ◌≢◌, ◌<◌, ℕ, length, map, slice_get, IfOk, IsSome, MatchOption, Option, Some};
 ghost use Rattle.cq_disk.specs.declared.name.Name.{Name};
 ghost use Rattle.cq_disk.specs.File.{File};
-ghost use Rattle.cq_items.specs.Items.{first_of, holder_of, is_out_to, undecided_items, waiting_items};
+ghost use Rattle.cq_items.specs.Items.{first_of, holder_of, is_out_to, settled_items, undecided_items, waiting_items};
 ghost use Rattle.cq_queue.specs.Values.{IsMost, empty_queue};
 ghost use Rattle.cq_queues.specs.Marks.{HasNone, IsLowest};
 ghost use Rattle.cq_queues.specs.Values.{AreMarked, AreMarked-prop, AreOwn, AreOwn-prop, IsMarked, value_in};
@@ -123,6 +123,22 @@ impl NodeQueues {
         ensures { result ≡ is_out_to client delivery (items_at self.now queue) }
     {
         self.cores[queue as usize].is_out(client, delivery)
+    }
+
+    /// How many entries of a queue are undecided. A commit passes so many at most.
+    pub fn undecided_count(&self, queue: u32) -> usize
+        requires { queue < 256 }
+        ensures { result ≡ length (undecided_items (items_at self.now queue)) }
+    {
+        self.cores[queue as usize].undecided_count()
+    }
+
+    /// How many messages of a queue are committed and acknowledged. A settling settles so many at most.
+    pub fn settling_count(&self, queue: u32) -> usize
+        requires { queue < 256 }
+        ensures { result ≡ length (settled_items (items_at self.now queue)) }
+    {
+        self.cores[queue as usize].settling_count()
     }
 
     /// The id of the undecided entry of a queue at this place from the front. `None` exactly past the last.

@@ -1,12 +1,19 @@
 // The entries that aren't decided yet, and passing the first of them.
 ghost use Rattle.cq_items.specs.declared.item.Stand.{Stand};
 ghost use Rattle.cq_items.specs.Items.{holder_of, IsHeldBy, IsPassed, is_free, is_gone, MayKeep, MayPass, pass_first, undecided_items};
-ghost use Rattle.std.specs.Prelude.{map, slice_get, ◌≡◌, true, false, not, ◌||◌, None, Some, IsSome};
+ghost use Rattle.std.specs.Prelude.{length, map, slice_get, ◌≡◌, true, false, not, ◌||◌, None, Some, IsSome};
 
 use crate::slots::{commit, empty};
 use crate::{Holder, Items, Message, Passed, Stand};
 
 impl Items {
+    /// How many entries are undecided.
+    pub fn undecided_count(&self) -> usize
+        ensures { result ≡ length (undecided_items self.now.items) }
+    {
+        self.slots.len() - self.first
+    }
+
     /// The message of the undecided entry at this place from the front. `None` exactly past the last.
     pub fn undecided_item(&self, at: usize) -> Option<Message<'_>>
         ensures { result ≡ slice_get (undecided_items self.now.items) at }
