@@ -1,19 +1,20 @@
 -- An acknowledgement and an end leave the queues that they don't concern.
-use Rattle.std.proofs.Common.{◌≡◌, ℕ, Bool, true, false, cond, List, [], ◌∷◌, refl, ◌∙◌, inl, inr}
-use Rattle.std.specs.Prelude.{◌==◌, ◌&&◌}
-use Rattle.std.specs.List.{list_any}
+use Rattle.std.proofs.Common.{◌≡◌, ℕ, Bool, true, false, cond, List, [], ◌∷◌, map, refl, ap, ◌∙◌, inl, inr}
+use Rattle.std.specs.Prelude.{◌==◌, ◌&&◌, filter}
+use Rattle.std.specs.List.{AllByRecursion, list_any}
 use Rattle.std.proofs.lemmas.Bool.{or_parts, and_cases, and_parts, cond-false, both_ways}
 use Rattle.cq_bytes.specs.Numbers.{contains}
 use Rattle.cq_journal.specs.declared.event.Event.TheVariants as event
 use Rattle.cq_journal.specs.declared.event.Entry.{Entry}
-use Rattle.cq_journal.specs.History.{Delivery, open_deliveries, is_delivery, acked}
+use Rattle.cq_journal.specs.declared.event.Message.{Message}
+use Rattle.cq_journal.specs.History.{Delivery, open_deliveries, is_delivery, acked, line}
 use Rattle.cq_journal.specs.Legal.{Legal}
 use Rattle.cq_journal.proofs.More.{is_open_for, one-queue, keys-open}
 use Rattle.cq_items.specs.Item.{Item}
 use Rattle.cq_items.specs.declared.item.Holder.{Holder}
 use Rattle.cq_items.specs.declared.item.Holder.TheVariants.{Waiting, Out, Gone}
-use Rattle.cq_items.specs.Items.{is_out, is_with, ack_one, back_one}
-use Rattle.cq_queue_laws.specs.Follows.{outside, standing, Follows}
+use Rattle.cq_items.specs.Items.{is_out, is_with, ack, ack_one, back_one, give_back, holding}
+use Rattle.cq_queue_laws.specs.Follows.{Whereabouts, bare, is_unsettled, outside, standing, stands, Follows}
 use Rattle.cq_queue_laws.proofs.Standing.{standing-acked, standing-dropped, standing-ended}
 use Rattle.cq_queue_laws.proofs.Keeps.{keeps-same}
 
@@ -59,3 +60,29 @@ pub keeps-dropped-other : (items : List Item) (past : List Entry) (stamp c n p q
 keeps-dropped-other items past stamp c n p q l o d =
     keeps-same items past (record { event = event.Dropped c n; stamp = stamp }) q (λ x. standing-dropped past stamp c n q x l
     ∙ ack-stays (standing past q x) c n (standing-elsewhere (is_out c n) (is_delivery c n) refl refl (λ d. refl) past q x (one-queue (open_deliveries past) c n p q (keys-open past l) o d))) refl refl
+
+-- no item is held so, where no message of the queue is
+held-nowhere : (t : Holder → Bool) (past : List Entry) (q : ℕ) (items : List Item) (ms : List Message) → map bare items ≡ map (stands past q) ms → ((x : ℕ) → t (standing past q x) ≡ false)
+    → AllByRecursion (λ (i : Item). t i.holder ≡ false) items
+held-nowhere t past q [] ms e none = tt
+held-nowhere t past q (i ∷ is) [] e none = cc
+held-nowhere t past q (i ∷ is) (m ∷ ms) e none =
+    let here : bare i ≡ stands past q m = cc in
+    let rest : map bare is ≡ map (stands past q) ms = cc in
+    (ap (λ (w : Whereabouts). t w.holder) here ∙ none m.id, held-nowhere t past q is ms rest none)
+
+holding-same : (f : Holder → Holder) (t : Holder → Bool) → ((s : Holder) → t s ≡ false → f s ≡ s) → (items : List Item) → AllByRecursion (λ (i : Item). t i.holder ≡ false) items → map (holding f) items ≡ items
+holding-same f t stays [] none = refl
+holding-same f t stays (i ∷ is) none =
+    ap (λ (h : Holder). (record i { holder = h }) ∷ map (holding f) is) (stays i.holder none.0) ∙ ap (λ (l : List Item). i ∷ l) (holding-same f t stays is none.1)
+
+-- an acknowledgement of a delivery from another queue, and the end of a client that has nothing open there, change no item
+pub ack-elsewhere : (items : List Item) (past : List Entry) (c n p q : ℕ) → Legal past → is_open_for (open_deliveries past) c n p ≡ true → (p == q) ≡ false → Follows items past q → ack c n items ≡ items
+ack-elsewhere items past c n p q l o d follows =
+    holding-same (ack_one c n) (is_out c n) (λ s. ack-stays s c n) items (held-nowhere (is_out c n) past q items (filter (is_unsettled past q) (line past q)) follows
+    (λ x. standing-elsewhere (is_out c n) (is_delivery c n) refl refl (λ d. refl) past q x (one-queue (open_deliveries past) c n p q (keys-open past l) o d)))
+
+pub back-elsewhere : (items : List Item) (past : List Entry) (c q : ℕ) → list_any (λ d. d.client == c && d.queue == q) (open_deliveries past) ≡ false → Follows items past q → give_back c items ≡ items
+back-elsewhere items past c q n follows =
+    holding-same (back_one c) (is_with c) (λ s. back-stays s c) items (held-nowhere (is_with c) past q items (filter (is_unsettled past q) (line past q)) follows
+    (λ x. standing-elsewhere (is_with c) (λ d. d.client == c) refl refl (λ d. refl) past q x n))

@@ -4,12 +4,13 @@ use Rattle.std.specs.Prelude.{◌==◌}
 use Rattle.std.proofs.lemmas.Bool.{false≢true, cases_Bool, or_left, eq-eqb, eqb-true, both_ways}
 use Rattle.cq_bytes.specs.Numbers.{contains}
 use Rattle.cq_disk.specs.declared.name.Name.{Name}
+use Rattle.cq_entry.specs.declared.entry.EntryKind.{EntryKind}
 use Rattle.cq_disk.specs.File.{File}
 use Rattle.cq_journal.specs.declared.event.Event.{Event}
 use Rattle.cq_journal.specs.declared.event.Event.TheVariants.{Opened, Dropped, Confirmed, Settled}
 use Rattle.cq_journal.specs.declared.event.Entry.{Entry}
 use Rattle.cq_journal.specs.declared.event.Message.{Message}
-use Rattle.cq_journal.specs.History.{settles}
+use Rattle.cq_journal.specs.History.{adds, settles}
 use Rattle.cq_journal.specs.Legal.{Legal}
 use Rattle.cq_journal.proofs.More.{eqb-sym}
 use Rattle.cq_folder.specs.Folder.{Sharing}
@@ -19,6 +20,7 @@ use Rattle.cq_folder.specs.HeldLaws.{settle_all}
 use Rattle.cq_folder.proofs.Kept.{keeps_standing}
 use Rattle.cq_items.specs.Item.{Item}
 use Rattle.cq_items.specs.Items.{new_item, others_items, settling_ids, undecided_items}
+use Rattle.cq_queue_laws.specs.Laws.{items_after}
 use Rattle.cq_queue.specs.Passing.{Suits, commit_items}
 use Rattle.cq_stored.specs.Stored.{coming}
 use Rattle.cq_stored.specs.InStep.{IsInStep, publish_at, skipped_of}
@@ -38,21 +40,19 @@ at_each P q now old new f lines changes here there r = ⊎_elim
     (subst (λ (is : List Item). P r is (lines r)) (sym (changes.others r (λ e. both_ways _ other (eq-eqb r q e)))) (there r (eqb-sym q r ∙ other))))
     (cases_Bool (r == q))
 
-published_each : (files : Name → Option File) (sharing : Sharing) (old new : ℕ → List Item) (past : List Entry) (lines : ℕ → List Message) (stamp client number : ℕ) (queues : List ℕ) (m : Message) (body : Option (List ℕ)) (len : ℕ)
-    → Legal (publish_at stamp client number queues m ∷ past) → Suits sharing.kinds (new_item m.id body len) m → AreInStep files sharing old past past lines
+-- a publish keeps each queue in step
+pub published_each : (kinds : Message → EntryKind) (old new : ℕ → List Item) (past : List Entry) (lines : ℕ → List Message) (stamp client number : ℕ) (queues : List ℕ) (m : Message) (body : Option (List ℕ)) (len : ℕ)
+    → Legal (publish_at stamp client number queues m ∷ past) → Suits kinds (new_item m.id body len) m → ((r : ℕ) → IsInStep kinds (old r) past r (lines r))
     → ((r : ℕ) → new r ≡ cond (contains queues r) (old r ++ new_item m.id body len ∷ []) (old r))
-    → AreInStep files sharing new (publish_at stamp client number queues m ∷ past) (publish_at stamp client number queues m ∷ past) lines
-published_each files sharing old new past lines stamp client number queues m body len legal suits s changes =
+    → (r : ℕ) → IsInStep kinds (new r) (publish_at stamp client number queues m ∷ past) r (lines r)
+published_each kinds old new past lines stamp client number queues m body len legal suits s changes r =
     let e : Entry = publish_at stamp client number queues m in
-    record {
-      standing = keeps_standing.quiet files sharing past lines e legal tt s.standing;
-      in_step = λ r. subst (λ (is : List Item). IsInStep sharing.kinds is (e ∷ past) r (lines r)) (sym (changes r)) (⊎_elim
-          (λ there. subst (λ (b : Bool). IsInStep sharing.kinds (cond b (old r ++ new_item m.id body len ∷ []) (old r)) (e ∷ past) r (lines r)) (sym there)
-          (in_step_laws.published sharing.kinds (old r) past r (lines r) stamp client number queues m body len legal there suits (s.in_step r)))
-          (λ other. subst (λ (b : Bool). IsInStep sharing.kinds (cond b (old r ++ new_item m.id body len ∷ []) (old r)) (e ∷ past) r (lines r)) (sym other)
-          (in_step_laws.quiet sharing.kinds (old r) past e r (lines r) legal (ap (λ (b : Bool). cond b (m ∷ []) []) other) (λ x none. absurd (false≢true none)) (s.in_step r)))
-          (cases_Bool (contains queues r)));
-    }
+    subst (λ (is : List Item). IsInStep kinds is (e ∷ past) r (lines r)) (sym (changes r)) (⊎_elim
+        (λ there. subst (λ (b : Bool). IsInStep kinds (cond b (old r ++ new_item m.id body len ∷ []) (old r)) (e ∷ past) r (lines r)) (sym there)
+        (in_step_laws.published kinds (old r) past r (lines r) stamp client number queues m body len legal there suits (s r)))
+        (λ other. subst (λ (b : Bool). IsInStep kinds (cond b (old r ++ new_item m.id body len ∷ []) (old r)) (e ∷ past) r (lines r)) (sym other)
+        (in_step_laws.quiet kinds (old r) past e r (lines r) legal (ap (λ (b : Bool). cond b (m ∷ []) []) other) (λ x none. absurd (false≢true none)) (s r)))
+        (cases_Bool (contains queues r)))
 
 first_is : (id : ℕ) (ids : List ℕ) → contains (id ∷ ids) id ≡ true
 first_is id ids = or_left (id == id) (contains ids id) (eq-eqb id id refl)
@@ -63,6 +63,14 @@ nothing_settled (Opened lines) r is_quiet x has = is_quiet
 nothing_settled (Confirmed client number id) r is_quiet x has = is_quiet
 nothing_settled (Settled queue id) r is_quiet x has = is_quiet
 nothing_settled _ r is_quiet x has = false≢true has
+
+-- and so does an entry that brings no message, confirms nothing and settles nothing
+pub quiet_each : (kinds : Message → EntryKind) (old new : ℕ → List Item) (past : List Entry) (e : Entry) (lines : ℕ → List Message) → Legal (e ∷ past) → IsQuiet e.event
+    → ((r : ℕ) → adds r e.event ≡ []) → ((r : ℕ) → IsInStep kinds (old r) past r (lines r)) → ((r : ℕ) → new r ≡ items_after e.event r (old r))
+    → (r : ℕ) → IsInStep kinds (new r) (e ∷ past) r (lines r)
+quiet_each kinds old new past e lines legal is_quiet none s changes r =
+    subst (λ (is : List Item). IsInStep kinds is (e ∷ past) r (lines r)) (sym (changes r))
+    (in_step_laws.quiet kinds (old r) past e r (lines r) legal (none r) (λ x has. absurd (nothing_settled e.event r is_quiet x has)) (s r))
 
 pub queues_laws : QueuesLaws
 queues_laws = record {
@@ -101,10 +109,12 @@ queues_laws = record {
             (λ r other. in_step_laws.elsewhere sharing.kinds (old r) past q r (lines r) stamp ids other (s.in_step r));
       };
   removed = λ files now sharing items past lines legal s stays. record { standing = remove_stands files now sharing past lines legal s.standing stays; in_step = s.in_step };
-  published = published_each;
+  published = λ files sharing old new past lines stamp client number queues m body len legal suits s changes. record {
+    standing = keeps_standing.quiet files sharing past lines (publish_at stamp client number queues m) legal tt s.standing;
+    in_step = published_each sharing.kinds old new past lines stamp client number queues m body len legal suits s.in_step changes;
+  };
   quiet = λ files sharing old new past e lines legal is_quiet none s changes. record {
     standing = keeps_standing.quiet files sharing past lines e legal is_quiet s.standing;
-    in_step = λ r. subst (λ (is : List Item). IsInStep sharing.kinds is (e ∷ past) r (lines r)) (sym (changes r))
-        (in_step_laws.quiet sharing.kinds (old r) past e r (lines r) legal (none r) (λ x has. absurd (nothing_settled e.event r is_quiet x has)) (s.in_step r));
+    in_step = quiet_each sharing.kinds old new past e lines legal is_quiet none s.in_step changes;
   };
 }
