@@ -3,4 +3,5 @@ pub mod Numbers
 pub mod Steps
 pub mod Publishing
 pub mod Passing
+pub mod Whole
 pub mod Beginning

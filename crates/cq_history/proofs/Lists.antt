@@ -2,7 +2,7 @@
 use Rattle.std.proofs.Common.{Result, Ok, Err, ◌≡◌, ℕ, ◌<◌, true, false, not, cond, List, [], ◌∷◌, ◌++◌, map, length, get_or, set, refl, sym, ap, ◌∙◌, subst, inl, inr, get_or-set_other, get_or-set_same}
 use Rattle.std.specs.Prelude.{◌==◌, ◌&&◌, ◌||◌, filter, None, Some, is_some, is_err, OnOk}
 use Rattle.std.specs.List.{list_any, AllByRecursion}
-use Rattle.std.proofs.lemmas.Bool.{cases_eq, eq-eqb, ne_eqb, cond-true, cond-false}
+use Rattle.std.proofs.lemmas.Bool.{cases_eq, eq-eqb, ne_eqb, cond-true, cond-false, or_left}
 use Rattle.std.proofs.lemmas.List.{get_or_default}
 use Rattle.cq_journal.specs.History.{Delivery, is_delivery}
 use Rattle.cq_client.specs.declared.open.OpenDelivery.{OpenDelivery}
@@ -36,6 +36,25 @@ open-found (d ∷ ds) c n e =
     ]) e
 
 -- none is
+pub open-from : (ds : List Delivery) (c n q : ℕ) → queue_of n (opens_in c ds) ≡ Some q → list_any (λ d. is_delivery c n d && d.queue == q) ds ≡ true
+open-from [] c n q e = cc
+open-from (d ∷ ds) c n q e =
+    (elim (d.client == c) as (λ b. queue_of n (map open_of (cond b (d ∷ filter (λ d. d.client == c) ds) (filter (λ d. d.client == c) ds))) ≡ Some q → (((b && d.number == n) && d.queue == q) || list_any (λ d. is_delivery c n d && d.queue == q) ds) ≡ true) [
+      | true ↦ λ e. (elim (d.number == n) as (λ b. cond b (Some d.queue) (queue_of n (opens_in c ds)) ≡ Some q → ((b && d.queue == q) || list_any (λ d. is_delivery c n d && d.queue == q) ds) ≡ true) [
+        | true ↦ λ e. or_left (d.queue == q) (list_any (λ d. is_delivery c n d && d.queue == q) ds) (eq-eqb d.queue q (let same : d.queue ≡ q = cc in same))
+        | false ↦ λ e. open-from ds c n q e
+      ]) e
+      | false ↦ λ e. open-from ds c n q e
+    ]) e
+
+pub open-below : (os : List OpenDelivery) (n q : ℕ) → AllByRecursion (λ o. o.queue < 256) os → queue_of n os ≡ Some q → q < 256
+open-below [] n q a e = cc
+open-below (o ∷ os) n q a e =
+    (elim (o.delivery == n) as (λ b. cond b (Some o.queue) (queue_of n os) ≡ Some q → q < 256) [
+      | true ↦ λ e. subst (λ x. x < 256) (let same : o.queue ≡ q = cc in same) a.0
+      | false ↦ λ e. open-below os n q a.1 e
+    ]) e
+
 pub open-none : (ds : List Delivery) (c n : ℕ) → queue_of n (opens_in c ds) ≡ None → list_any (is_delivery c n) ds ≡ false
 open-none [] c n e = refl
 open-none (d ∷ ds) c n e =

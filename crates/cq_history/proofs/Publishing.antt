@@ -1,6 +1,6 @@
 -- A publish keeps what is kept in memory beside the journal.
 use Rattle.std.proofs.Common.{◌≡◌, ℕ, ◌+◌, ◌<◌, ◌≤◌, true, false, cond, List, [], ◌∷◌, length, map, refl, sym, ap, ◌∙◌, subst, arith, inl, inr}
-use Rattle.std.specs.Prelude.{◌==◌, ◌||◌, ◌&&◌, Option, None, Some, is_some}
+use Rattle.std.specs.Prelude.{◌==◌, ◌&&◌, Option, None, Some, is_some}
 use Rattle.std.specs.Ordering.{nat_cmp}
 use Rattle.std.specs.FinMap.{FinMap, get, insert}
 use Rattle.std.proofs.lemmas.Bool.{false≢true, or_left, or_right, or_from, or_parts, or_cases, and_from, and_parts, both_ways, cases_eq, cases_order, eq-eqb, eqb-true, ne_eqb, cond-true, cond-false}
@@ -20,7 +20,7 @@ use Rattle.cq_core.proofs.Found.{published-brings}
 use Rattle.cq_client.specs.Client.{Account}
 use Rattle.cq_history.specs.Accounts.{after_publish}
 use Rattle.cq_history.specs.History.{NoneLacks}
-use Rattle.cq_history.specs.Kept.{open_of, IsAccount, HaveIds, IsHistory}
+use Rattle.cq_history.specs.Kept.{open_of, HaveIds, IsHistory}
 use Rattle.cq_history.specs.Steps.{noted}
 use Rattle.cq_history.proofs.Steps.{not-first, accounts-step, replied}
 
@@ -119,7 +119,7 @@ kept-published {journal} {accounts} {n} {lacks} {ids} c stamp queues body count 
             below = k.below;
             published_is = ap (λ x. published journal c + x) (cond-true (c == c) 1 0 (eq-eqb c c refl)) ∙ ap (λ x. x + 1) k.published_is;
             delivered_is = omega (arith, k.delivered_is);
-            replies_are = replied journal c (accounts c).replies (reply.Published number) k.replies_are;
+            replies_are = replied journal c (accounts c).replies (reply.Published number) (reply.Published number) refl k.replies_are;
           })
           long accounts_are;
     }

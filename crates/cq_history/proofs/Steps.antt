@@ -4,6 +4,7 @@ use Rattle.std.specs.Prelude.{◌==◌, ◌||◌, None, is_some}
 use Rattle.std.specs.Ordering.{nat_cmp}
 use Rattle.std.specs.FinMap.{FinMap}
 use Rattle.std.proofs.lemmas.Bool.{or_right, or_from, or_parts, cases_Bool, eq-eqb, eqb-true, cond-true, cond-false}
+use Rattle.std.proofs.lemmas.List.{map-append}
 use Rattle.cq_bytes.specs.Numbers.{contains}
 use Rattle.cq_journal.specs.declared.event.Event.{Event}
 use Rattle.cq_journal.specs.declared.event.Event.TheVariants as event
@@ -18,11 +19,12 @@ use Rattle.cq_journal.proofs.Laws.{body_of-first}
 use Rattle.cq_journal_laws.specs.Changes.{unacked_after}
 use Rattle.cq_journal_laws.proofs.Changed.{unacked-changes}
 use Rattle.cq_confirm.specs.declared.lack.Lack.{Lack}
+use Rattle.cq_core.specs.Answers.{bodiless}
 use Rattle.cq_core.specs.Core.{TakesNextId}
 use Rattle.cq_core.specs.Ids.{Numbering}
 use Rattle.cq_client.specs.declared.open.OpenDelivery.{OpenDelivery}
 use Rattle.cq_client.specs.Client.{Account, queue_of, without}
-use Rattle.cq_history.specs.Accounts.{after_reply, after_delivery, after_ack, after_end}
+use Rattle.cq_history.specs.Accounts.{after_reply, after_delivery, after_end}
 use Rattle.cq_history.specs.Kept.{open_of, IsAccount, HaveIds, IsHistory}
 use Rattle.cq_history.specs.Steps.{noted, MayGet, IsFirstMessage}
 use Rattle.cq_history.proofs.Lists.{open-found, open-none, opens-without, opens-more, all-without, all-more}
@@ -102,16 +104,19 @@ other-account e past c a l o k = record {
   below = k.below;
   published_is = ap (λ n. published past c + n) (other-publishes e.event c o) ∙ omega (arith, k.published_is);
   delivered_is = ap (λ n. delivered past c + n) (other-delivers e.event c o) ∙ omega (arith, k.delivered_is);
-  replies_are = other-replies e past c o ∙ k.replies_are;
+  replies_are = ap (map bodiless) (other-replies e past c o) ∙ k.replies_are;
 }
 
 -- the one reply to the client itself
 own-same : {A : Type 0} (c : ℕ) (x : A) → own c c x ≡ x ∷ []
 own-same c x = cond-true (c == c) (x ∷ []) [] (eq-eqb c c refl)
 
--- one reply more on both sides
-pub replied : (past : List Entry) (c : ℕ) (rs : List Reply) (r : Reply) → replies past c ≡ rs → replies past c ++ own c c r ≡ rs ++ r ∷ []
-replied past c rs r same = ap (λ l. replies past c ++ l) (own-same c r) ∙ ap (λ l. l ++ r ∷ []) same
+-- one reply more on both sides, whose bodies may differ
+pub replied : (past : List Entry) (c : ℕ) (rs : List Reply) (r s : Reply) → bodiless r ≡ bodiless s → map bodiless (replies past c) ≡ map bodiless rs → map bodiless (replies past c ++ own c c r) ≡ map bodiless (rs ++ s ∷ [])
+replied past c rs r s one same =
+    ap (λ l. map bodiless (replies past c ++ l)) (own-same c r)
+    ∙ map-append bodiless (replies past c) (r ∷ []) ∙ ap (λ l. l ++ bodiless r ∷ []) same ∙ ap (λ (x : Reply). map bodiless rs ++ x ∷ []) one
+    ∙ sym (map-append bodiless rs (s ∷ []))
 
 -- ---- a step keeps it, where the client's own account is right
 
@@ -171,7 +176,7 @@ kept-busy {journal} {accounts} {n} {lacks} {ids} c queue stamp count now h near 
       below = k.below;
       published_is = omega (arith, k.published_is);
       delivered_is = omega (arith, k.delivered_is);
-      replies_are = replied journal c (accounts c).replies (reply.Busy queue) k.replies_are;
+      replies_are = replied journal c (accounts c).replies (reply.Busy queue) (reply.Busy queue) refl k.replies_are;
     })
     long are
 
@@ -187,35 +192,31 @@ kept-empty {journal} {accounts} {n} {lacks} {ids} c queue stamp count now h near
       below = k.below;
       published_is = omega (arith, k.published_is);
       delivered_is = omega (arith, k.delivered_is);
-      replies_are = replied journal c (accounts c).replies (reply.Empty queue) k.replies_are;
+      replies_are = replied journal c (accounts c).replies (reply.Empty queue) (reply.Empty queue) refl k.replies_are;
     })
     long are
 
 -- ---- a delivery
 
-first-id : (id : ℕ) (body : List ℕ) (ms : List Message) → IsFirstMessage id body ms → IsFirst id ms
-first-id id body [] first = absurd first
-first-id id body (m ∷ ms) first = first.0
-
-first-body : (journal : List Entry) (q id : ℕ) (body : List ℕ) (ms : List Message) → Legal journal → waiting journal q ≡ ms → IsFirstMessage id body ms → body_of id (line journal q) ≡ body
+pub first-body : (journal : List Entry) (q id : ℕ) (body : List ℕ) (ms : List Message) → Legal journal → waiting journal q ≡ ms → IsFirstMessage id body ms → body_of id (line journal q) ≡ body
 first-body journal q id body [] legal waits first = absurd first
 first-body journal q id body (m ∷ ms) legal waits first = ap (λ x. body_of x (line journal q)) (sym first.0) ∙ body_of-first journal q m ms legal waits ∙ first.1
 
-pub legal-delivered : {journal : List Entry} {accounts : ℕ → Account} {n : ℕ} {lacks : FinMap nat_cmp Lack} {ids : Numbering} (c queue id stamp : ℕ) (body : List ℕ)
-    → IsHistory journal accounts n lacks ids → c < n → newest journal ≤ stamp → MayGet c journal → IsFirstMessage id body (waiting journal queue)
+pub legal-delivered : {journal : List Entry} {accounts : ℕ → Account} {n : ℕ} {lacks : FinMap nat_cmp Lack} {ids : Numbering} (c queue id stamp : ℕ)
+    → IsHistory journal accounts n lacks ids → c < n → newest journal ≤ stamp → MayGet c journal → IsFirst id (waiting journal queue)
     → Legal (noted (event.Delivered c (accounts c).delivered queue id) stamp journal)
-legal-delivered {journal} {accounts} {n} {lacks} {ids} c queue id stamp body h near later may first =
-    ((may.open_, first-id id body (waiting journal queue) first, sym (h.accounts_are c near).delivered_is), not-first journal _ h.some, later, h.legal)
+legal-delivered {journal} {accounts} {n} {lacks} {ids} c queue id stamp h near later may first =
+    ((may.open_, first, sym (h.accounts_are c near).delivered_is), not-first journal _ h.some, later, h.legal)
 
 pub kept-delivered : {journal : List Entry} {accounts : ℕ → Account} {n : ℕ} {lacks : FinMap nat_cmp Lack} {ids : Numbering} (c queue id stamp : ℕ) (body : List ℕ) (count : ℕ) (now : ℕ → Account)
-    → IsHistory journal accounts n lacks ids → c < n → queue < 256 → newest journal ≤ stamp → MayGet c journal → IsFirstMessage id body (waiting journal queue)
+    → IsHistory journal accounts n lacks ids → c < n → queue < 256 → newest journal ≤ stamp → MayGet c journal → IsFirst id (waiting journal queue)
     → count ≡ n → ((k : ℕ) → now k ≡ cond (c == k) (after_delivery queue body (accounts c)) (accounts k))
     → IsHistory (noted (event.Delivered c (accounts c).delivered queue id) stamp journal) now count lacks ids
 kept-delivered {journal} {accounts} {n} {lacks} {ids} c queue id stamp body count now h near below later may first long are =
     let d : ℕ = (accounts c).delivered in
     let e : Entry = record { event = event.Delivered c d queue id; stamp = stamp } in
     let k = h.accounts_are c near in
-    let legal : Legal (e ∷ journal) = legal-delivered c queue id stamp body h near later may first in
+    let legal : Legal (e ∷ journal) = legal-delivered c queue id stamp h near later may first in
     let delivery : Delivery = record { client = c; number = d; queue = queue; id = id } in
     kept-step e c (after_delivery queue body (accounts c)) count now h legal refl (λ k other. other)
     (record {
@@ -223,7 +224,7 @@ kept-delivered {journal} {accounts} {n} {lacks} {ids} c queue id stamp body coun
       below = all-more (λ (o : OpenDelivery). o.queue < 256) (accounts c).opens (record { delivery = d; queue = queue }) k.below below;
       published_is = omega (arith, k.published_is);
       delivered_is = ap (λ m. delivered journal c + m) (cond-true (c == c) 1 0 (eq-eqb c c refl)) ∙ ap (λ m. m + 1) k.delivered_is;
-      replies_are = ap (λ b. replies journal c ++ own c c (reply.Got d queue b)) (first-body journal queue id body (waiting journal queue) h.legal refl first) ∙ replied journal c (accounts c).replies (reply.Got d queue body) k.replies_are;
+      replies_are = replied journal c (accounts c).replies (reply.Got d queue (body_of id (line journal queue))) (reply.Got d queue body) refl k.replies_are;
     })
     long are
 
@@ -249,7 +250,7 @@ kept-acked {journal} {accounts} {n} {lacks} {ids} c d stamp count now h near lat
       below = all-without (λ (o : OpenDelivery). o.queue < 256) (accounts c).opens d k.below;
       published_is = omega (arith, k.published_is);
       delivered_is = omega (arith, k.delivered_is);
-      replies_are = replied journal c (accounts c).replies (reply.Acked d) k.replies_are;
+      replies_are = replied journal c (accounts c).replies (reply.Acked d) (reply.Acked d) refl k.replies_are;
     })
     long are
 
@@ -270,7 +271,7 @@ kept-unknown {journal} {accounts} {n} {lacks} {ids} c d stamp count now h near l
       below = k.below;
       published_is = omega (arith, k.published_is);
       delivered_is = omega (arith, k.delivered_is);
-      replies_are = replied journal c (accounts c).replies (reply.Unknown d) k.replies_are;
+      replies_are = replied journal c (accounts c).replies (reply.Unknown d) (reply.Unknown d) refl k.replies_are;
     })
     long are
 
@@ -290,7 +291,7 @@ kept-ended {journal} {accounts} {n} {lacks} {ids} c stamp count now h near later
       below = tt;
       published_is = omega (arith, k.published_is);
       delivered_is = omega (arith, k.delivered_is);
-      replies_are = replied journal c (accounts c).replies reply.Ended k.replies_are;
+      replies_are = replied journal c (accounts c).replies reply.Ended reply.Ended refl k.replies_are;
     })
     long are
 

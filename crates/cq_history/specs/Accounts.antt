@@ -1,7 +1,7 @@
 -- A client's account after each kind of answer.
 use Rattle.std.specs.Prelude.{ℕ, ◌+◌, List, [], ◌∷◌, ◌++◌, Option, None, Some}
 use Rattle.cq_journal.specs.declared.reply.Reply.{Reply}
-use Rattle.cq_journal.specs.declared.reply.Reply.TheVariants.{Published, Got, Empty, Busy, Acked, Unknown, Ended}
+use Rattle.cq_journal.specs.declared.reply.Reply.TheVariants.{Published, Got, Acked, Unknown, Ended}
 use Rattle.cq_client.specs.Client.{Account, without}
 
 -- one reply more

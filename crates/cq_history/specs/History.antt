@@ -3,6 +3,7 @@ use Rattle.std.specs.Prelude.{◌≡◌, ℕ, ◌<◌, ◌≤◌, List, length, 
 use Rattle.std.specs.Ordering.{nat_cmp}
 use Rattle.std.specs.FinMap.{FinMap, get}
 use Rattle.cq_journal.specs.declared.event.Entry.{Entry}
+use Rattle.cq_journal.specs.Asks.{replies}
 use Rattle.cq_journal.specs.Legal.{newest}
 use Rattle.cq_confirm.specs.declared.lack.Lack.{Lack}
 use Rattle.cq_client.specs.Client.{Account, ClientValue, no_account}
@@ -32,6 +33,10 @@ pub record CanAnswer (client stamp : ℕ) (now : HistoryValue) : Type 0 where
   pub room : 0 < now.room
   pub reply_room : 0 < room_at now.clients client
   pub later : newest now.entries ≤ stamp
+
+-- each client was given the bodies that the journal says
+abbrev pub AreWhole : HistoryValue → Type 0
+AreWhole h = (c : ℕ) → c < length h.clients → replies h.entries c ≡ (account_at h.clients c).replies
 
 -- no message lacks a queue
 abbrev pub NoneLacks : FinMap nat_cmp Lack → Type 0

@@ -11,6 +11,7 @@ use Rattle.cq_journal.specs.Legal.{published, delivered, has, brings, is_publish
 use Rattle.cq_journal.specs.Asks.{replies}
 use Rattle.cq_confirm.specs.declared.lack.Lack.{Lack}
 use Rattle.cq_confirm.specs.Lacking.{EachLacks}
+use Rattle.cq_core.specs.Answers.{bodiless}
 use Rattle.cq_core.specs.Core.{TakesNextIds}
 use Rattle.cq_core.specs.Ids.{Numbering}
 use Rattle.cq_client.specs.declared.open.OpenDelivery.{OpenDelivery}
@@ -20,13 +21,13 @@ use Rattle.cq_client.specs.Client.{Account}
 abbrev pub open_of : Delivery → OpenDelivery
 open_of d = record { delivery = d.number; queue = d.queue }
 
--- The client's account is what the journal says of it, and its open deliveries are of queues below 256.
+-- The client's account is what the journal says of it, but for the bodies of replies, and its open deliveries are of queues below 256.
 pub record IsAccount (journal : List Entry) (c : ℕ) (a : Account) : Type 0 where
   pub opens_are : map open_of (unacked journal c) ≡ a.opens
   pub below : AllByRecursion (λ o. o.queue < 256) a.opens
   pub published_is : published journal c ≡ a.published
   pub delivered_is : delivered journal c ≡ a.delivered
-  pub replies_are : replies journal c ≡ a.replies
+  pub replies_are : map bodiless (replies journal c) ≡ map bodiless a.replies
 
 -- Of each id below the next one there is a message; there is none of the others but those that stood in the folder.
 pub record HaveIds (journal : List Entry) (ids : Numbering) : Type 0 where

@@ -1,11 +1,12 @@
 -- What each step adds to the journal, and what it leaves.
-use Rattle.std.specs.Prelude.{◌≡◌, ℕ, ◌+◌, ◌^◌, ◌<◌, ◌≤◌, ◌==◌, if◌then◌else◌, List, [], ◌∷◌, length, Option, None, Some}
+use Rattle.std.specs.Prelude.{◌≡◌, ℕ, ◌+◌, ◌^◌, ◌<◌, ◌≤◌, true, ◌==◌, ◌&&◌, if◌then◌else◌, List, [], ◌∷◌, length, Option, None, Some}
+use Rattle.std.specs.List.{list_any}
 use Rattle.std.specs.FinMap.{get, insert}
 use Rattle.cq_journal.specs.declared.event.Event.{Event}
 use Rattle.cq_journal.specs.declared.event.Event.TheVariants.{Published, Acked, Unknown, Confirmed}
 use Rattle.cq_journal.specs.declared.event.Entry.{Entry}
 use Rattle.cq_journal.specs.declared.event.Message.{Message}
-use Rattle.cq_journal.specs.History.{unacked}
+use Rattle.cq_journal.specs.History.{is_delivery, open_deliveries, unacked}
 use Rattle.cq_journal.specs.Legal.{delivered}
 use Rattle.cq_confirm.specs.declared.lack.Sure.{Sure}
 use Rattle.cq_confirm.specs.Lacking.{passed, sure_of}
@@ -44,6 +45,11 @@ pub record MayGet (client : ℕ) (past : List Entry) : Type 0 where
 abbrev pub IsFirstMessage : ℕ → List ℕ → List Message → Type 0
 IsFirstMessage id body [] = ⊥
 IsFirstMessage id body (m ∷ ms) = (m.id ≡ id) × (m.body ≡ body)
+
+-- the client has the delivery open, and it came from this queue, below 256
+pub record IsOpenFrom (client delivery : ℕ) (past : List Entry) (queue : ℕ) : Type 0 where
+  pub below : queue < 256
+  pub open_ : list_any (λ d. is_delivery client delivery d && d.queue == queue) (open_deliveries past) ≡ true
 
 -- what an acknowledgement is answered of a delivery that came from this queue, or isn't open
 abbrev pub ack_event : ℕ → ℕ → Option ℕ → Event

@@ -1,15 +1,16 @@
 // What happened on a node.
-ghost use Rattle.std.specs.Prelude.{◌≡◌, ◌<◌, ◌≤◌, ◌+◌, ◌^◌, ◌∷◌, [], ℕ, List, ◌==◌, if◌then◌else◌, Option, None, Some, IsSome, is_some, true, false, length, map, IfOk, IfErr, OnOk, OnErr, MatchBool};
+ghost use Rattle.std.specs.Prelude.{◌≡◌, ◌<◌, ◌≤◌, ◌+◌, ◌^◌, ◌∷◌, [], ℕ, List, ◌==◌, if◌then◌else◌, Option, None, Some, IsSome, is_some, true, false, length, map, IfOk, IfErr, IfSome, OnOk, OnErr, MatchBool};
+ghost use Rattle.std.specs.List.{AllByRecursion};
 ghost use Rattle.std.specs.FinMap as finite;
 ghost use Rattle.cq_inbox.specs.declared.request.Request.TheVariants as request;
 ghost use Rattle.cq_bytes.specs.Numbers.{contains};
 ghost use Rattle.cq_journal.specs.declared.event.Event.TheVariants as event;
 ghost use Rattle.cq_journal.specs.declared.reply.Reply.TheVariants as reply;
 ghost use Rattle.cq_journal.specs.History.{unacked, waiting, acked, settled};
-ghost use Rattle.cq_journal.specs.Legal.{Legal, AreLines, newest, delivered};
+ghost use Rattle.cq_journal.specs.Legal.{Legal, AreLines, IsFirst, newest, delivered};
 ghost use Rattle.cq_journal.specs.Asks.{replies};
 ghost use Rattle.cq_journal.specs.Confirms.{AreConfirmed};
-ghost use Rattle.cq_core.specs.Answers.{Answers};
+ghost use Rattle.cq_core.specs.Answers.{Answers, bodiless};
 ghost use Rattle.cq_core.specs.Core.{IsNextId, TakesNextIds};
 ghost use Rattle.cq_client.specs.Client.{no_account, queue_of};
 ghost use Rattle.cq_history.specs.Accounts.{after_reply, after_publish, after_delivery, after_ack, after_end};
@@ -60,9 +61,9 @@ impl Model for History {
 }
 
 impl History {
-    ghost use Rattle.cq_history.specs.History.{CanAnswer, NoneLacks, room_at};
+    ghost use Rattle.cq_history.specs.History.{AreWhole, CanAnswer, NoneLacks, room_at};
     ghost use Rattle.cq_history.specs.Kept.{AreAccounts, AreDecided, AreIdsOf, AreOwed, open_of};
-    ghost use Rattle.cq_history.specs.Steps.{AddsAlone, AddsPublish, ChangesAccount, IsFirstMessage, MayGet, Passes, SaysTheSame, ack_event, noted};
+    ghost use Rattle.cq_history.specs.Steps.{AddsAlone, AddsPublish, ChangesAccount, IsFirstMessage, IsOpenFrom, MayGet, Passes, SaysTheSame, ack_event, noted};
 
     /// A history of so many clients whose folder held these lines; `taken` are their ids. The opening is its one entry, with this
     /// stamp.
@@ -148,6 +149,7 @@ impl History {
         ensures accounts { OnOk result ((c : ℕ) → account_at self.new.clients c
             ≡ (if client == c then after_publish (account_at self.old.clients c) else account_at self.old.clients c)) }
         ensures legal { Legal self.new.entries }
+        ensures whole { AreWhole self.old → AreWhole self.new }
         ensures back { IfErr result (λ back. (back.queues ≡ queues) × (back.body ≡ body)) }
         ensures err { OnErr result (self.new ≡ self.old) }
     {
@@ -179,6 +181,7 @@ impl History {
         ensures answers { Answers client (request.Get queue) stamp self.old.entries self.new.entries }
         ensures legal { Legal self.new.entries }
         ensures changes { ChangesAccount client (after_reply (reply.Busy queue)) self.old self.new }
+        ensures whole { AreWhole self.old → AreWhole self.new }
     {
         let event = Event::Busy { client, queue };
         self.journal.push(Entry { event, stamp });
@@ -194,23 +197,25 @@ impl History {
         ensures answers { Answers client (request.Get queue) stamp self.old.entries self.new.entries }
         ensures legal { Legal self.new.entries }
         ensures changes { ChangesAccount client (after_reply (reply.Empty queue)) self.old self.new }
+        ensures whole { AreWhole self.old → AreWhole self.new }
     {
         let event = Event::Empty { client, queue };
         self.journal.push(Entry { event, stamp });
         self.clients[client as usize].empty(queue);
     }
 
-    /// Answers a get by the first message that waits, which has this id and this body.
+    /// Answers a get by the first message that waits, which has this id, with this body.
     pub fn deliver(&mut self, client: u32, queue: u32, stamp: u64, id: u128, body: Body)
         requires ready { CanAnswer client stamp self.old }
         requires queue { queue < 256 }
         requires may { MayGet client self.old.entries }
-        requires first { IsFirstMessage id body (waiting self.old.entries queue) }
+        requires first { IsFirst id (waiting self.old.entries queue) }
         ensures entries { self.new.entries
             ≡ noted (event.Delivered client (account_at self.old.clients client).delivered queue id) stamp self.old.entries }
         ensures answers { Answers client (request.Get queue) stamp self.old.entries self.new.entries }
         ensures legal { Legal self.new.entries }
         ensures changes { ChangesAccount client (after_delivery queue body) self.old self.new }
+        ensures whole { IsFirstMessage id body (waiting self.old.entries queue) → AreWhole self.old → AreWhole self.new }
     {
         let delivery = self.clients[client as usize].delivered();
         let event = Event::Delivered {
@@ -227,10 +232,12 @@ impl History {
     pub fn ack(&mut self, client: u32, delivery: u32, stamp: u64) -> Option<u32>
         requires ready { CanAnswer client stamp self.old }
         ensures queue { result ≡ queue_of delivery (account_at self.old.clients client).opens }
+        ensures from { IfSome result (IsOpenFrom client delivery self.old.entries) }
         ensures entries { self.new.entries ≡ noted (ack_event client delivery result) stamp self.old.entries }
         ensures answers { Answers client (request.Ack delivery) stamp self.old.entries self.new.entries }
         ensures legal { Legal self.new.entries }
         ensures changes { ChangesAccount client (after_ack delivery result) self.old self.new }
+        ensures whole { AreWhole self.old → AreWhole self.new }
     {
         let queue = self.clients[client as usize].queue_of(delivery);
         match queue {
@@ -247,6 +254,7 @@ impl History {
         ensures answers { Answers client request.End stamp self.old.entries self.new.entries }
         ensures legal { Legal self.new.entries }
         ensures changes { ChangesAccount client after_end self.old self.new }
+        ensures whole { AreWhole self.old → AreWhole self.new }
     {
         let event = Event::Ended { client };
         self.journal.push(Entry { event, stamp });
@@ -261,6 +269,7 @@ impl History {
         requires later { newest self.old.entries ≤ stamp }
         ensures passes { Passes id stamp self.old self.new }
         ensures legal { Legal self.new.entries }
+        ensures whole { AreWhole self.old → AreWhole self.new }
     {
         let sure = self.lacks.pass(id);
         note_confirmed(&mut self.journal, stamp, id, sure);
@@ -274,6 +283,7 @@ impl History {
         requires later { newest self.old.entries ≤ stamp }
         ensures adds { AddsAlone (event.Settled queue id) stamp self.old self.new }
         ensures legal { Legal self.new.entries }
+        ensures whole { AreWhole self.old → AreWhole self.new }
     {
         let event = Event::Settled { queue, id };
         self.journal.push(Entry { event, stamp });
@@ -313,6 +323,7 @@ impl History {
         requires client { client < length self.now.clients }
         ensures account { result.now ≡ (account_at self.now.clients client).opens }
         ensures journal { result.now ≡ map open_of (unacked self.now.entries client) }
+        ensures below { AllByRecursion (λ o. o.queue < 256) result.now }
     {
         self.clients[client as usize].opens()
     }
@@ -330,7 +341,7 @@ impl History {
     pub fn replies(&self, client: u32) -> &[Reply]
         requires client { client < length self.now.clients }
         ensures account { result.now ≡ (account_at self.now.clients client).replies }
-        ensures journal { result.now ≡ replies self.now.entries client }
+        ensures journal { map bodiless result.now ≡ map bodiless (replies self.now.entries client) }
     {
         self.clients[client as usize].replies()
     }
@@ -342,6 +353,7 @@ impl History {
         ensures entries { self.new.entries ≡ noted (event.Acked client delivery) stamp self.old.entries }
         ensures legal { Legal self.new.entries }
         ensures changes { ChangesAccount client (after_ack delivery (Some 0)) self.old self.new }
+        ensures whole { AreWhole self.old → AreWhole self.new }
     {
         let event = Event::Acked { client, delivery };
         self.journal.push(Entry { event, stamp });
@@ -355,6 +367,7 @@ impl History {
         ensures entries { self.new.entries ≡ noted (event.Unknown client delivery) stamp self.old.entries }
         ensures legal { Legal self.new.entries }
         ensures changes { ChangesAccount client (after_ack delivery None) self.old self.new }
+        ensures whole { AreWhole self.old → AreWhole self.new }
     {
         let event = Event::Unknown { client, delivery };
         self.journal.push(Entry { event, stamp });

@@ -1,4 +1,4 @@
-use Rattle.std.proofs.Common.{◌≡◌, ℕ, sym, subst}
+use Rattle.std.proofs.Common.{sym, subst}
 use Rattle.cq_core.specs.Core.{IsNextId}
 use Rattle.cq_history.specs.History.{HistoryValue}
 use Rattle.cq_history.proofs.Publishing.{next-id}

@@ -6,6 +6,7 @@ use Rattle.cq_history.specs.History.{HistoryValue}
 use Rattle.cq_history.specs.Steps.{confirmed_by}
 use Rattle.cq_history.proofs.Steps.{kept_at}
 use Rattle.cq_history.proofs.Passing.{kept-passed}
+use Rattle.cq_history.proofs.Whole.{whole-confirmed}
 use Rattle.cq_history.proofs.history.History.pass.Goals as goal
 
 pub invariant_of-self : goal.invariant_of-self
@@ -21,3 +22,6 @@ returns-clause-legal c =
     let is : c.note_confirmed.new.journal.entries ≡ confirmed_by c.args.stamp c.args.id (sure_of (get c.self.inside.lacks c.args.id)) c.self.inside.journal.entries =
     c.note_confirmed.ensures.entries ∙ ap (λ s. confirmed_by c.args.stamp c.args.id s c.self.inside.journal.entries) c.pass-sure.ensures.sure in
     subst Legal (sym is) (kept-passed c.args.stamp c.args.id (get c.self.inside.lacks c.args.id) c.self.invariant later refl).legal
+
+pub returns-clause-whole : goal.returns-clause-whole
+returns-clause-whole c = rw (← c.self.view_is) (whole-confirmed c.self.inside.journal.entries c.note_confirmed.new.journal.entries c.self.inside.clients.items c.args.stamp c.args.id c.pass-sure.result c.note_confirmed.ensures.entries)

@@ -1,4 +1,4 @@
-use Rattle.std.proofs.Common.{◌≡◌, ℕ, ◌+◌, ◌^◌, ◌<◌, ◌≤◌, List, length, length-set, set, refl, sym, ap, ◌∙◌, subst, arith}
+use Rattle.std.proofs.Common.{◌≡◌, ℕ, ◌^◌, ◌<◌, ◌≤◌, List, length, length-set, set, refl, sym, ap, ◌∙◌, subst, arith}
 use Rattle.std.specs.FinMap.{insert}
 use Rattle.cq_journal.specs.Legal.{newest, Legal}
 use Rattle.cq_journal.specs.declared.event.Event.TheVariants as event
@@ -10,6 +10,10 @@ use Rattle.cq_history.proofs.Lists.{changed, published_number, no_error}
 use Rattle.cq_history.proofs.Numbers.{few-queues}
 use Rattle.cq_history.proofs.Steps.{kept_at}
 use Rattle.cq_history.proofs.Publishing.{legal-published, kept-published, next-id, one-next, fresh-lack, published-within}
+use Rattle.cq_client.specs.Client.{Account, ClientValue}
+use Rattle.std.proofs.lemmas.List.{get_or_default}
+use Rattle.cq_history.proofs.Whole.{whole-step}
+use Rattle.cq_journal.specs.declared.reply.Reply.TheVariants as reply
 use Rattle.cq_history.proofs.history.History.publish.Goals as goal
 
 pub overflow_cast-count : goal.overflow_cast-count
@@ -67,3 +71,11 @@ returns-clause-legal c =
     let is : c.push.new.self.entries ≡ noted (event.Published c.args.client (account_at c.self.inside.clients.items c.args.client).published c.self.inside.ids.next c.args.queues c.args.body) c.args.stamp c.self.inside.journal.entries =
     c.push.ensures.entries ∙ ap (λ (p : ℕ × ℕ). noted (event.Published c.args.client p.0 p.1 c.args.queues c.args.body) c.args.stamp c.self.inside.journal.entries) (λ i. (number i, c.next-id.ensures.next i)) in
     subst Legal (sym is) (legal-published c.args.client c.args.stamp c.args.queues c.args.body c.self.invariant near later c.numbers.ensures.queues c.requires.some)
+
+pub returns-clause-whole : goal.returns-clause-whole
+returns-clause-whole c =
+    let near : c.args.client < length c.self.inside.clients.items = subst (λ (v : HistoryValue). c.args.client < length v.clients) (sym c.self.view_is) c.requires.ready.near in
+    let number : c.published-number.result ≡ c.index_mut.result.now.account.published = c.published-number.ensures ∙ ap (λ (k : ClientValue). k.account.published) (c.index.ensures ∙ get_or_default c.self.inside.clients.items c.args.client c.index.result.now c.index_mut.result.now near ∙ sym c.index_mut.ensures.value) in
+    rw (← c.self.view_is) (whole-step c.self.inside.journal.entries c.push.new.self.entries (record { event = event.Published c.args.client c.published-number.result c.next-id.result c.args.queues c.args.body; stamp = c.args.stamp }) c.self.inside.clients.items c.args.client c.index_mut.result.now c.publish.new.self
+    (reply.Published c.published-number.result) (reply.Published c.index_mut.result.now.account.published) near c.index_mut.ensures.value (ap (λ (a : Account). a.replies) c.publish.ensures)
+    (ap reply.Published number) c.push.ensures.entries (λ k. refl))
