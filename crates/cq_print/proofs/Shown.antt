@@ -1,8 +1,8 @@
 -- The lines with the bodies that are found by their ids are the text of a legal session.
-use Rattle.std.proofs.Common.{◌≡◌, ◌≢◌, ℕ, zero, suc, ◌≤◌, ◌<◌, true, false, cond, List, [], ◌∷◌, ◌++◌, length, map, refl, sym, ap, ◌∙◌, subst, append-nil, arith}
+use Rattle.std.proofs.Common.{◌≡◌, ℕ, zero, suc, true, false, cond, List, [], ◌∷◌, ◌++◌, map, refl, sym, ap, ◌∙◌, subst}
 use Rattle.std.specs.Prelude.{◌==◌, ◌||◌, Option, unwrap_or, Result, OnOk}
 use Rattle.cq_io.specs.Streams.{Adds}
-use Rattle.std.proofs.lemmas.Bool.{eqb-true, eq-eqb, ne_eqb}
+use Rattle.std.proofs.lemmas.Bool.{eqb-true}
 use Rattle.std.proofs.lemmas.List.{map-append}
 use Rattle.cq_bytes.specs.Numbers.{contains}
 use Rattle.cq_journal.specs.declared.reply.Reply.{Reply}
@@ -15,8 +15,9 @@ use Rattle.cq_journal.specs.Legal.{has, brings, Allowed, Legal}
 use Rattle.cq_journal.specs.Asks.{own, body_of, reply_of, replies}
 use Rattle.cq_print.specs.Text.{reply_line, confirmed_lines, is_delivery_to, cut_replies, client_text, clients_text}
 use Rattle.cq_print.specs.Bodies.{or_else, find_body}
-use Rattle.cq_print.specs.Lines.{own_line, reply_lines, last_place, client_lines, clients_lines}
+use Rattle.cq_print.specs.Lines.{own_line, client_lines, clients_lines}
 use Rattle.cq_print.proofs.Found.{or-true, brought, first-brought, found, unbrought-body}
+use Rattle.cq_print.proofs.Places.{all_replies, but_last, placeless}
 
 -- each id that was brought has its body
 abbrev pub Agrees : (ℕ → Option (List ℕ)) → List Entry → Type 0
@@ -49,40 +50,22 @@ event-lines (event.Unknown client number) past c bodies a l f = sym (own-lines c
 event-lines (event.Ended client) past c bodies a l f = sym (own-lines c client reply.Ended)
 event-lines _ past c bodies a l f = refl
 
--- with no place left out
-all-told : (past : List Entry) (c place : ℕ) (bodies : ℕ → Option (List ℕ)) → Legal past → Agrees bodies past → length past ≤ place
-    → reply_lines bodies c place past ≡ map (reply_line c) (replies past c)
-all-told [] c place bodies l f n = refl
-all-told (e ∷ past) c place bodies l f n =
+all-told : (past : List Entry) (c : ℕ) (bodies : ℕ → Option (List ℕ)) → Legal past → Agrees bodies past → all_replies bodies c past ≡ map (reply_line c) (replies past c)
+all-told [] c bodies l f = refl
+all-told (e ∷ past) c bodies l f =
     let before = agrees-before bodies e past l f in
-    let other : length past ≢ place = λ s. omega (arith, s) in
-    let shorter : length past ≤ place = omega arith in
-    ap (λ b. reply_lines bodies c place past ++ cond b [] (own_line bodies c e.event)) (ne_eqb (length past) place other)
-    ∙ ap (λ xs. xs ++ own_line bodies c e.event) (all-told past c place bodies l.3 before shorter)
+    ap (λ xs. xs ++ own_line bodies c e.event) (all-told past c bodies l.3 before)
     ∙ ap (λ xs. map (reply_line c) (replies past c) ++ xs) (event-lines e.event past c bodies l.0 l.3 before)
     ∙ sym (map-append (reply_line c) (replies past c) (reply_of past c e.event))
 
-place-apart : (past : List Entry) (none c place : ℕ) → length past ≤ place → place < none → last_place none c past ≢ place
-place-apart [] none c place n m = λ s. omega (arith, s)
-place-apart (e ∷ past) none c place n m =
-    elim (is_delivery_to c e.event) as (λ t. cond t (length past) (last_place none c past) ≢ place)
-    [ true ↦ λ s. omega (arith, s) | false ↦ place-apart past none c place (omega arith) m ]
-
--- with the last delivery left out
-cut-told : (past : List Entry) (c none : ℕ) (bodies : ℕ → Option (List ℕ)) → Legal past → Agrees bodies past → length past ≤ none
-    → reply_lines bodies c (last_place none c past) past ≡ map (reply_line c) (cut_replies past c)
-cut-told [] c none bodies l f n = refl
-cut-told (e ∷ past) c none bodies l f n =
+cut-told : (past : List Entry) (c : ℕ) (bodies : ℕ → Option (List ℕ)) → Legal past → Agrees bodies past → but_last bodies c past ≡ map (reply_line c) (cut_replies past c)
+cut-told [] c bodies l f = refl
+cut-told (e ∷ past) c bodies l f =
     let before = agrees-before bodies e past l f in
-    let shorter : length past ≤ none = omega arith in
-    let apart : length past ≢ last_place none c past = λ s. place-apart past none c (length past) (omega arith) (omega arith) (sym s) in
-    elim (is_delivery_to c e.event) as (λ t. reply_lines bodies c (cond t (length past) (last_place none c past)) (e ∷ past)
+    elim (is_delivery_to c e.event) as (λ t. cond t (all_replies bodies c past) (but_last bodies c past ++ own_line bodies c e.event)
     ≡ map (reply_line c) (cond t (replies past c) (cut_replies past c ++ reply_of past c e.event))) [
-      | true ↦ ap (λ b. reply_lines bodies c (length past) past ++ cond b [] (own_line bodies c e.event)) (eq-eqb (length past) (length past) refl)
-          ∙ append-nil (reply_lines bodies c (length past) past)
-          ∙ all-told past c (length past) bodies l.3 before (omega arith)
-      | false ↦ ap (λ b. reply_lines bodies c (last_place none c past) past ++ cond b [] (own_line bodies c e.event)) (ne_eqb (length past) (last_place none c past) apart)
-          ∙ ap (λ xs. xs ++ own_line bodies c e.event) (cut-told past c none bodies l.3 before shorter)
+      | true ↦ all-told past c bodies l.3 before
+      | false ↦ ap (λ xs. xs ++ own_line bodies c e.event) (cut-told past c bodies l.3 before)
           ∙ ap (λ xs. map (reply_line c) (cut_replies past c) ++ xs) (event-lines e.event past c bodies l.0 l.3 before)
           ∙ sym (map-append (reply_line c) (cut_replies past c) (reply_of past c e.event))
     ]
@@ -90,11 +73,10 @@ cut-told (e ∷ past) c none bodies l f n =
 client-told : (past : List Entry) (cut : List ℕ) (c : ℕ) (bodies : ℕ → Option (List ℕ)) → Legal past → Agrees bodies past
     → client_lines bodies past cut c ≡ client_text past cut c
 client-told past cut c bodies l f =
-    ap (λ xs. xs ++ confirmed_lines past c)
-    (elim (contains cut c) as (λ t. reply_lines bodies c (cond t (last_place (length past) c past) (length past)) past ≡ map (reply_line c) (cond t (cut_replies past c) (replies past c))) [
-      | true ↦ cut-told past c (length past) bodies l f (omega arith)
-      | false ↦ all-told past c (length past) bodies l f (omega arith)
-    ])
+    placeless bodies c past cut
+    ∙ ap (λ xs. xs ++ confirmed_lines past c)
+    (elim (contains cut c) as (λ t. cond t (but_last bodies c past) (all_replies bodies c past) ≡ map (reply_line c) (cond t (cut_replies past c) (replies past c)))
+    [ true ↦ cut-told past c bodies l f | false ↦ all-told past c bodies l f ])
 
 pub clients-told : (past : List Entry) (cut : List ℕ) (n : ℕ) (bodies : ℕ → Option (List ℕ)) → Legal past → ((x : ℕ) → bodies x ≡ find_body x past)
     → clients_lines bodies past cut n ≡ clients_text past cut n

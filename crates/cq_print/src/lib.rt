@@ -3,6 +3,7 @@
 
 mod bodies;
 mod body;
+mod clients;
 mod counts;
 mod lines;
 mod outcome;

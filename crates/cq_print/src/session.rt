@@ -1,15 +1,19 @@
 // The text of a session, one put a line.
-ghost use Rattle.std.specs.Prelude.{◌≡◌, ◌≤◌, ◌^◌, ◌++◌, ◌∷◌, [], IfOk, OnOk, reverse, length, if◌then◌else◌};
+ghost use Rattle.std.specs.Prelude.{◌≡◌, ◌++◌, ◌∷◌, [], IfOk, OnOk, reverse, length, if◌then◌else◌};
+ghost use Rattle.std.specs.Ordering.{nat_cmp};
+ghost use Rattle.std.specs.BTreeMap.{IsOrdered};
 ghost use Rattle.cq_bytes.specs.Numbers.{contains};
 ghost use Rattle.cq_disk.specs.Call.{CausedOf};
 ghost use Rattle.cq_io.specs.Streams.{Adds};
 ghost use Rattle.cq_journal.specs.Legal.{Legal};
-ghost use Rattle.cq_print.specs.Text.{session_line, text_of, confirm_of, confirmed_lines, clients_end, client_end, is_delivery_to, opened_line, opened_by, opened_lines};
+ghost use Rattle.cq_print.specs.Text.{session_line, text_of, confirm_of, confirmed_lines, clients_end, is_delivery_to, opened_line, opened_by, opened_lines};
 ghost use Rattle.cq_print.specs.Bodies.{shown};
 ghost use Rattle.cq_print.specs.Counts.{counts_lines};
+ghost use Rattle.cq_print.specs.Clients.{behind, lines_of};
 ghost use Rattle.cq_print.specs.Lines.{answers, line_of, own_line, reply_lines, last_place, left_out, client_lines, clients_lines};
 
 use crate::bodies::{bodies_of, body_of};
+use crate::clients::{Clients, clients_of};
 use crate::counts::counts_of;
 use crate::lines::{
     acked_line, busy_line, confirmed_line, empty_line, ended_line, got_line, opened_line,
@@ -164,13 +168,13 @@ fn put_replies<W: Sink>(
     alloc: Global,
     client: u32,
     left_out: usize,
-    entries: &[Entry],
+    entries: &[&Entry],
     bodies: &BTreeMap<u128, &[u8]>,
     sink: &mut W,
 ) -> Result<(), PutError>
     ensures ok { OnOk result
         (Adds (W.pieces sink.old) (W.pieces sink.new)
-        (reply_lines (shown bodies.now) client left_out (reverse entries.now))) }
+        (reply_lines (shown bodies.now) client left_out (behind entries.now))) }
     ensures cause { CausedOf PutError.Output (W.faults sink.old) (W.faults sink.new) result }
 {
     for (place, entry) in entries.iter().enumerate() {
@@ -208,11 +212,11 @@ fn put_confirm<W: Sink>(
 fn put_confirms<W: Sink>(
     alloc: Global,
     client: u32,
-    entries: &[Entry],
+    entries: &[&Entry],
     sink: &mut W,
 ) -> Result<(), PutError>
     ensures ok { OnOk result
-        (Adds (W.pieces sink.old) (W.pieces sink.new) (confirmed_lines (reverse entries.now) client)) }
+        (Adds (W.pieces sink.old) (W.pieces sink.new) (confirmed_lines (behind entries.now) client)) }
     ensures cause { CausedOf PutError.Output (W.faults sink.old) (W.faults sink.new) result }
 {
     for entry in entries {
@@ -232,8 +236,8 @@ fn is_delivery_to(client: u32, event: &Event) -> bool
 }
 
 /// The place of the last delivery to the client, and the number of entries where there is none.
-fn last_place(client: u32, entries: &[Entry]) -> usize
-    ensures { result ≡ last_place (length entries.now) client (reverse entries.now) }
+fn last_place(client: u32, entries: &[&Entry]) -> usize
+    ensures { result ≡ last_place (length entries.now) client (behind entries.now) }
 {
     let mut last = entries.len();
     for (place, entry) in entries.iter().enumerate() {
@@ -245,8 +249,8 @@ fn last_place(client: u32, entries: &[Entry]) -> usize
 }
 
 /// The place that is left out: that of the last delivery to a client that was cut off, and none of another.
-fn left_out(client: u32, entries: &[Entry], cut: &[u32]) -> usize
-    ensures { result ≡ left_out (reverse entries.now) cut.now client }
+fn left_out(client: u32, entries: &[&Entry], cut: &[u32]) -> usize
+    ensures { result ≡ left_out (behind entries.now) cut.now client }
 {
     if cut.contains(&client) {
         return last_place(client, entries);
@@ -254,18 +258,18 @@ fn left_out(client: u32, entries: &[Entry], cut: &[u32]) -> usize
     entries.len()
 }
 
-/// Puts the lines of a client.
+/// Puts the lines of a client, by the entries that concern it.
 fn put_client<W: Sink>(
     alloc: Global,
     client: u32,
-    entries: &[Entry],
+    entries: &[&Entry],
     cut: &[u32],
     bodies: &BTreeMap<u128, &[u8]>,
     sink: &mut W,
 ) -> Result<(), PutError>
     ensures ok { OnOk result
         (Adds (W.pieces sink.old) (W.pieces sink.new)
-        (client_lines (shown bodies.now) (reverse entries.now) cut.now client)) }
+        (client_lines (shown bodies.now) (behind entries.now) cut.now client)) }
     ensures cause { CausedOf PutError.Output (W.faults sink.old) (W.faults sink.new) result }
 {
     let place = left_out(client, entries, cut);
@@ -273,37 +277,26 @@ fn put_client<W: Sink>(
     put_confirms(alloc, client, entries, sink)
 }
 
-/// One more than the number of the client of an event, where it has one.
-fn client_end(event: &Event) -> u64
-    ensures same { result ≡ client_end event.now }
-    ensures small { result ≤ 2 ^ 32 }
+/// Puts the lines of clients by their entries, in the map's order.
+fn put_all<W: Sink>(
+    alloc: Global,
+    clients: &Clients<'_>,
+    cut: &[u32],
+    bodies: &BTreeMap<u128, &[u8]>,
+    sink: &mut W,
+) -> Result<(), PutError>
+    ensures ok { OnOk result
+        (Adds (W.pieces sink.old) (W.pieces sink.new) (lines_of (shown bodies.now) cut.now clients.now.entries)) }
+    ensures cause { CausedOf PutError.Output (W.faults sink.old) (W.faults sink.new) result }
+    ensures ordered { IsOrdered nat_cmp clients.now }
 {
-    match event {
-        Event::Published { client, .. }
-        | Event::Delivered { client, .. }
-        | Event::Empty { client, .. }
-        | Event::Busy { client, .. }
-        | Event::Acked { client, .. }
-        | Event::Unknown { client, .. }
-        | Event::Ended { client }
-        | Event::Confirmed { client, .. } => u64::from(*client) + 1,
-        _ => 0,
+    for (client, entries) in clients {
+        put_client(alloc, *client, entries, cut, bodies, sink)?;
     }
+    Ok(())
 }
 
-/// The number that every client of the entries is below.
-fn clients_end(entries: &[Entry]) -> u64
-    ensures same { result ≡ clients_end (reverse entries.now) }
-    ensures small { result ≤ 2 ^ 32 }
-{
-    let mut end = 0;
-    for entry in entries {
-        end = client_end(&entry.event).max(end);
-    }
-    end
-}
-
-/// Puts the lines of all clients, rising.
+/// Puts the lines of all clients, rising. All entries are walked once, and then those of each client alone.
 fn put_clients<W: Sink>(
     alloc: Global,
     entries: &[Entry],
@@ -316,10 +309,8 @@ fn put_clients<W: Sink>(
         (clients_lines (shown bodies.now) (reverse entries.now) cut.now (clients_end (reverse entries.now)))) }
     ensures cause { CausedOf PutError.Output (W.faults sink.old) (W.faults sink.new) result }
 {
-    for client in 0..clients_end(entries) {
-        put_client(alloc, client as u32, entries, cut, bodies, sink)?;
-    }
-    Ok(())
+    let clients = clients_of(alloc, entries)?;
+    put_all(alloc, &clients, cut, bodies, sink)
 }
 
 /// Puts the text of a session, with the bodies that are found by their ids.
