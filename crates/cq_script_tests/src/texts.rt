@@ -92,10 +92,10 @@ fn published(
     })
 }
 
-/// A delivery from queue 0 to client 0.
-fn delivered(delivery: u32, id: u128) -> Event {
+/// A delivery from queue 0 to a client.
+fn delivered(client: u32, delivery: u32, id: u128) -> Event {
     Event::Delivered {
-        client: 0,
+        client,
         delivery,
         queue: 0,
         id,
@@ -171,8 +171,8 @@ fn two_clients(alloc: Global) -> Result<Journal, AllocError> {
     };
     let events = vec![in alloc;
         confirmed(0, 2),
-        delivered(0, 1),
-        delivered(1, 2),
+        delivered(0, 0, 1),
+        delivered(0, 1, 2),
         empty,
         confirmed(1, 1),
     ]?;
@@ -193,8 +193,8 @@ fn a_session_is_put_client_by_client(rt: HostRuntime) -> Result<(), Fail> {
 /// Two publishes of a client, which gets both messages.
 fn two_deliveries(alloc: Global) -> Result<Journal, AllocError> {
     let mut journal = publishes(alloc, &[(0, 0, 1, "m0"), (0, 1, 2, "m1")])?;
-    add(&mut journal, delivered(0, 1))?;
-    add(&mut journal, delivered(1, 2))?;
+    add(&mut journal, delivered(0, 0, 1))?;
+    add(&mut journal, delivered(0, 1, 2))?;
     Ok(journal)
 }
 
@@ -203,6 +203,48 @@ fn a_delivery_that_was_cut_off_is_not_told(rt: HostRuntime) -> Result<(), Fail> 
     let alloc = rt.alloc();
     let sink = text_of(alloc, 0, two_deliveries(alloc)?, vec![in alloc; 0]?)?;
     let text = "session 0\nc0 published 0\nc0 published 1\nc0 got 0 q0 2 text m0\n";
+    assert!(rt; sink.taken() == text.as_bytes());
+    Ok(())
+}
+
+/// What three clients get and acknowledge, and which of their publishes are confirmed.
+fn gets_of_three(alloc: Global) -> Result<Vec<Event>, AllocError> {
+    let acked = Event::Acked {
+        client: 0,
+        delivery: 0,
+    };
+    let events = vec![in alloc;
+        delivered(0, 0, 1),
+        delivered(2, 0, 2),
+        confirmed(2, 1),
+        acked,
+        delivered(0, 1, 3),
+        delivered(1, 0, 4),
+        confirmed(1, 3),
+        confirmed(0, 2),
+    ]?;
+    Ok(events)
+}
+
+/// The publishes of three clients, and what they get.
+fn three_clients(alloc: Global) -> Result<Journal, AllocError> {
+    let rows = [
+        (2, 0, 1, "m0"),
+        (0, 0, 2, "m1"),
+        (1, 0, 3, "m2"),
+        (1, 1, 4, "m3"),
+    ];
+    let mut journal = publishes(alloc, &rows)?;
+    add_all(&mut journal, gets_of_three(alloc)?)?;
+    Ok(journal)
+}
+
+#[test]
+fn of_three_clients_two_were_cut_off(rt: HostRuntime) -> Result<(), Fail> {
+    let alloc = rt.alloc();
+    let sink = text_of(alloc, 2, three_clients(alloc)?, vec![in alloc; 0, 2]?)?;
+    let text =
+        "session 2\nc0 published 0\nc0 got 0 q0 2 text m0\nc0 acked 0\nc0 confirmed 0\nc1 published 0\nc1 published 1\nc1 got 0 q0 2 text m3\nc1 confirmed 0\nc2 published 0\nc2 confirmed 0\n";
     assert!(rt; sink.taken() == text.as_bytes());
     Ok(())
 }
