@@ -1,6 +1,6 @@
-//! Times parts of the store by themselves. A word picks the part: `gates`, `requests`, `packs`, `queues`, or `disks` or
-//! `openings` and a folder's path; each prints what it did, with nanoseconds or microseconds for each. Without a word it does a
-//! little of each but the last two, and takes no time.
+//! Times parts of the store by themselves. A word picks the part: `gates`, `requests`, `packs`, `queues`, `texts`, or
+//! `disks` or `openings` and a folder's path; each prints what it did, with nanoseconds or microseconds for each. Without a word
+//! it does a little of each but the last two, and takes no time.
 #![tactic(auto)]
 
 mod disks;
@@ -12,11 +12,13 @@ mod openings;
 mod packs;
 mod queues;
 mod requests;
+mod texts;
 
 use std::fs::File;
 use std::rt::{Clock, Files};
 use std::sync::Wait;
 use std::thread::Threads;
+use std::time::CpuClock;
 use std::{env, io};
 
 fn main(rt: HostRuntime) -> io::Result<()> {
@@ -33,6 +35,7 @@ fn time<
     R: AllocGlobal
         + Clock
         + Clone
+        + CpuClock
         + Drop
         + Files<File = File>
         + Print
@@ -54,14 +57,18 @@ fn time<
         "requests" => requests::show(rt, true),
         "packs" => packs::show(rt, true),
         "queues" => queues::show(rt, true),
+        "texts" => texts::show(rt, true),
         _ => println!(rt; "no such part"),
     }
 }
 
 /// Does a little of each part.
-fn try_out<R: AllocGlobal + Clock + Print + Sync + Threads + Wait>(rt: &R) -> io::Result<()> {
+fn try_out<R: AllocGlobal + Clock + CpuClock + Print + Sync + Threads + Wait>(
+    rt: &R,
+) -> io::Result<()> {
     gates::show(rt, false)?;
     requests::show(rt, false)?;
     packs::show(rt, false)?;
-    queues::show(rt, false)
+    queues::show(rt, false)?;
+    texts::show(rt, false)
 }
