@@ -20,6 +20,7 @@ shown_all told faults [] silent = []
 shown_all told faults (place ∷ places) [] = shown_at told faults place false ∷ shown_all told faults places []
 shown_all told faults (place ∷ places) (s ∷ silent) = shown_at told faults place s ∷ shown_all told faults places silent
 
+-- of the boxes of all clients
 abbrev pub shown : {B : Type 0} → (B → Option (List (ℕ × ℕ))) → (B → ℕ) → Boxes B → List (Option Shown)
 shown told faults boxes = shown_all told faults boxes.places.items boxes.silent
 
