@@ -16,3 +16,8 @@ pub mod Taking
 pub mod Numbered
 pub mod Going
 pub mod Walking
+pub mod Synced
+pub mod Quiet
+pub mod Sought
+pub mod Removing
+pub mod Queues

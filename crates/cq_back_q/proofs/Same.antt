@@ -13,7 +13,7 @@ use Rattle.cq_back_q.specs.Sound.{QueueSoundBy}
 use Rattle.cq_back_q.specs.Damage.{IfDamaged, IsDamaged, IsMisread}
 use Rattle.cq_back_q.proofs.Refused.{byte_stands, not_sound}
 
-damaged_to : (error : BackError) (P Q : Name → ℕ → ℕ → Type 0) → ((name : Name) (place found : ℕ) → P name place found → Q name place found) → IfDamaged error P → IfDamaged error Q
+pub damaged_to : (error : BackError) (P Q : Name → ℕ → ℕ → Type 0) → ((name : Name) (place found : ℕ) → P name place found → Q name place found) → IfDamaged error P → IfDamaged error Q
 damaged_to Fault P Q step damaged = tt
 damaged_to Memory P Q step damaged = tt
 damaged_to (Damaged name place found) P Q step damaged = step name place found damaged

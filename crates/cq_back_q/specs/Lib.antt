@@ -6,3 +6,6 @@ pub mod Found
 pub mod Read
 pub mod Damage
 pub mod Reading
+pub mod Folder
+pub mod Listed
+pub mod Opens

@@ -1,4 +1,4 @@
-// What the opening of a queue finds.
+// What the opening of a queue finds, and that of a folder.
 use cq_bytes::Body;
 use cq_entry::Entry;
 use cq_index::Segment;
@@ -27,4 +27,19 @@ pub struct FoundQueue {
     pub held: Vec<HeldEntry>,
     /// Their bodies, in the same order. That of a shared message stands in a shared file, which isn't read.
     pub bodies: Vec<Option<Body>>,
+}
+
+/// A queue of a folder that has an index or a small store, and what its opening finds.
+#[derive(Drop)]
+pub struct ListedQueue {
+    /// The queue, below 256.
+    pub queue: u32,
+    pub found: FoundQueue,
+}
+
+/// What the opening of a folder finds.
+#[derive(Drop)]
+pub struct FoundFolder {
+    /// The queues that have files, by rising number. One that had only small stores without an index has none any more.
+    pub queues: Vec<ListedQueue>,
 }

@@ -2,6 +2,7 @@
 //! in order, or the first byte that doesn't fit is told.
 #![tactic(auto)]
 
+mod each;
 mod entry;
 mod error;
 mod files;
@@ -9,10 +10,14 @@ mod found;
 mod named;
 mod numbers;
 mod open;
+mod own;
 mod reading;
 mod segment;
+mod shelf;
+mod strays;
+mod sync;
 mod taken;
 
 pub use error::BackError;
-pub use found::{FoundQueue, HeldEntry};
+pub use found::{FoundFolder, FoundQueue, HeldEntry, ListedQueue};
 pub use open::open_queue;
