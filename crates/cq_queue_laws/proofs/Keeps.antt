@@ -194,7 +194,7 @@ true_of : (b : Bool) → not b ≡ false → b ≡ true
 true_of true h = refl
 true_of false h = cc
 
-waiting-unsettled : (past : List Entry) (q : ℕ) → Legal past → filter (λ m. is_free (standing past q m.id)) (unsettled past q) ≡ waiting past q
+pub waiting-unsettled : (past : List Entry) (q : ℕ) → Legal past → filter (λ m. is_free (standing past q m.id)) (unsettled past q) ≡ waiting past q
 waiting-unsettled past q l =
     filter-congr (λ m. is_free (standing past q m.id)) (is_waiting past q) (standing-waits past q) (unsettled past q)
     ∙ filter-within (is_waiting past q) (is_unsettled past q) (λ m h. and_left _ _ (not_from_true _ (settled-removed past q m.id l (true_of (contains (settled past q) m.id) h)))) (line past q)

@@ -41,7 +41,7 @@ abbrev pub AreBelow : ℕ → List ℕ → Type 0
 AreBelow n [] = Unit {0}
 AreBelow n (q ∷ qs) = (q < n) × (contains qs q ≡ false) × AreBelow n qs
 
-below-queues : (qs : List ℕ) → AreQueues qs → AreBelow 256 qs
+pub below-queues : (qs : List ℕ) → AreQueues qs → AreBelow 256 qs
 below-queues [] a = tt
 below-queues (q ∷ qs) a = (a.0, a.1, below-queues qs a.2)
 

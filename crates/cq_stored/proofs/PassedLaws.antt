@@ -68,7 +68,7 @@ passed_left skip room (i ∷ is) p once there =
       ])
     ]) there
 
-once_filter : (t : Item → Bool) (is : List Item) → AreOnce is → AreOnce (filter t is)
+pub once_filter : (t : Item → Bool) (is : List Item) → AreOnce is → AreOnce (filter t is)
 once_filter t [] once = tt
 once_filter t (i ∷ is) once = elim (t i) as (λ (b : Bool). AreOnce (cond b (i ∷ filter t is) (filter t is))) [
   | true ↦ (any-filter (λ (j : Item). j.id == i.id) t is once.0, once_filter t is once.1)

@@ -29,7 +29,7 @@ use Rattle.cq_stored.proofs.InStep.{in_step_laws, passing_laws}
 use Rattle.cq_stored.proofs.Stands.{commit_stands, settled_stands, remove_stands}
 
 -- one queue and every other
-at_each : (P : ℕ → List Item → List Message → Type 0) (q : ℕ) (now : List Item) (old new : ℕ → List Item) (f : List Message → List Message) (lines : ℕ → List Message) → ChangesAt q now old new
+pub at_each : (P : ℕ → List Item → List Message → Type 0) (q : ℕ) (now : List Item) (old new : ℕ → List Item) (f : List Message → List Message) (lines : ℕ → List Message) → ChangesAt q now old new
     → P q now (f (lines q)) → ((r : ℕ) → (q == r) ≡ false → P r (old r) (lines r)) → (r : ℕ) → P r (new r) (cond (r == q) (f (lines r)) (lines r))
 at_each P q now old new f lines changes here there r = ⊎_elim
     (λ same.
