@@ -1,0 +1,5 @@
+pub mod Quiet
+pub mod Waits
+pub mod Finding
+pub mod Beginning
+pub mod Publishing
