@@ -48,11 +48,11 @@ pub published_each : (kinds : Message → EntryKind) (old new : ℕ → List Ite
 published_each kinds old new past lines stamp client number queues m body len legal suits s changes r =
     let e : Entry = publish_at stamp client number queues m in
     subst (λ (is : List Item). IsInStep kinds is (e ∷ past) r (lines r)) (sym (changes r)) (⊎_elim
-        (λ there. subst (λ (b : Bool). IsInStep kinds (cond b (old r ++ new_item m.id body len ∷ []) (old r)) (e ∷ past) r (lines r)) (sym there)
-        (in_step_laws.published kinds (old r) past r (lines r) stamp client number queues m body len legal there suits (s r)))
-        (λ other. subst (λ (b : Bool). IsInStep kinds (cond b (old r ++ new_item m.id body len ∷ []) (old r)) (e ∷ past) r (lines r)) (sym other)
-        (in_step_laws.quiet kinds (old r) past e r (lines r) legal (ap (λ (b : Bool). cond b (m ∷ []) []) other) (λ x none. absurd (false≢true none)) (s r)))
-        (cases_Bool (contains queues r)))
+    (λ there. subst (λ (b : Bool). IsInStep kinds (cond b (old r ++ new_item m.id body len ∷ []) (old r)) (e ∷ past) r (lines r)) (sym there)
+    (in_step_laws.published kinds (old r) past r (lines r) stamp client number queues m body len legal there suits (s r)))
+    (λ other. subst (λ (b : Bool). IsInStep kinds (cond b (old r ++ new_item m.id body len ∷ []) (old r)) (e ∷ past) r (lines r)) (sym other)
+    (in_step_laws.quiet kinds (old r) past e r (lines r) legal (ap (λ (b : Bool). cond b (m ∷ []) []) other) (λ x none. absurd (false≢true none)) (s r)))
+    (cases_Bool (contains queues r)))
 
 first_is : (id : ℕ) (ids : List ℕ) → contains (id ∷ ids) id ≡ true
 first_is id ids = or_left (id == id) (contains ids id) (eq-eqb id id refl)
